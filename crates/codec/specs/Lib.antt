@@ -1,0 +1,3 @@
+pub mod Feed
+pub mod Sinks
+pub mod Leb128
