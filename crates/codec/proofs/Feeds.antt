@@ -51,6 +51,10 @@ pub fed-last : {S : Type 0} {takes : S → ℕ → Bool} {step : S → ℕ → S
 fed-last (Ok x) e first = absurd (false≢true e)
 fed-last (Err x) e first = first
 
+-- the same bytes by another name
+pub fed-same : {S : Type 0} {takes : S → ℕ → Bool} {step : S → ℕ → S} {s t : S} {a b : List ℕ} {ok : Bool} → a ≡ b → Fed takes step s a ok t → Fed takes step s b ok t
+fed-same {S} {takes} {step} {s} {t} {a} {b} {ok} e f = record { is = ap (fed takes step s) (sym e) ∙ f .is }
+
 -- what is returned there, by the `From` of its error
 pub refused-as : {T E : Type 0} (P : T → Type 0) (Q : E → Type 0) (r : Result T E) → ErrBy r Q → Cases r P Q
 refused-as P Q (Ok x) e = absurd e

@@ -75,28 +75,32 @@ abbrev pub front : List ℕ → Option (List ℕ)
 front [] = None
 front (b ∷ bs) = cond (ltb b 128) (Some (b ∷ [])) (behind b (front bs))
 
+-- Those bytes, or why there are none: cut short where fewer than ten bytes are there and none ends the number, and
+-- too large where it takes more than ten.
+abbrev pub framedFront : List ℕ → Option (List ℕ) → Result (List ℕ) NumberFault
+framedFront bytes None = cond (ltb (length bytes) 10) (Err CutShort) (Err TooLarge)
+framedFront bytes (Some bs) = cond (leb (length bs) 10) (Ok bs) (Err TooLarge)
+
+abbrev pub frameAt : List ℕ → Result (List ℕ) NumberFault
+frameAt bytes = framedFront bytes (front bytes)
+
 module _ {N : Type 0} (value : List ℕ → N) (fits : N → Bool) (code : N → List ℕ) where
-  -- What a number's bytes stand for: too large where they are more than ten or the value does not fit 64 bits,
-  -- and overlong where the value has a shorter code.
-  abbrev pub judged : List ℕ → Result (N × ℕ) NumberFault
-  judged bs =
-      cond (leb (length bs) 10) (cond (fits (value bs)) (cond (eqb (length (code (value bs))) (length bs)) (Ok (value bs, length bs)) (Err Overlong)) (Err TooLarge)) (Err TooLarge)
+  -- What a number's bytes stand for: too large where the value does not fit, and overlong where it has a shorter code.
+  abbrev pub judged : Result (List ℕ) NumberFault → Result (N × ℕ) NumberFault
+  judged (Err e) = Err e
+  judged (Ok bs) =
+      cond (fits (value bs)) (cond (eqb (length (code (value bs))) (length bs)) (Ok (value bs, length bs)) (Err Overlong)) (Err TooLarge)
 
-  abbrev pub judgedFront : List ℕ → Option (List ℕ) → Result (N × ℕ) NumberFault
-  judgedFront bytes None = cond (ltb (length bytes) 10) (Err CutShort) (Err TooLarge)
-  judgedFront bytes (Some bs) = judged bs
-
-  -- What reading any bytes gives: the number that they start with, and how many bytes it takes. They are cut
-  -- short where none of them, fewer than ten, has a clear high bit.
+  -- What reading any bytes gives: the number that they start with, and how many bytes it takes.
   abbrev pub numberAt : List ℕ → Result (N × ℕ) NumberFault
-  numberAt bytes = judgedFront bytes (front bytes)
+  numberAt bytes = judged (frameAt bytes)
 
 -- What reading gives.
 unfoldable pub readUnsigned : List ℕ → Result (ℕ × ℕ) NumberFault
-readUnsigned = numberAt unsigned fitsU64 uleb
+readUnsigned bytes = numberAt unsigned fitsU64 uleb bytes
 
 unfoldable pub readSigned : List ℕ → Result (ℤ × ℕ) NumberFault
-readSigned = numberAt signed fitsI64 sleb
+readSigned bytes = numberAt signed fitsI64 sleb bytes
 
 -- A reader accepts exactly where the code of a number that fits stands at the front.
 pub record Exact {N : Type 0} (value : List ℕ → N) (fits : N → Bool) (bytes : List ℕ) (r : Result (N × ℕ) NumberFault) : Type 0 where

@@ -1,3 +1,4 @@
 pub mod Feed
 pub mod Sinks
 pub mod Leb128
+pub mod Frames

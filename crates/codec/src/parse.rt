@@ -2,5 +2,7 @@
 
 // why a number is refused
 pub mod fault;
+// where the bytes of a number end
+mod frame;
 // the readers
 pub mod leb128;
