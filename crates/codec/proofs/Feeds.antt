@@ -80,24 +80,28 @@ fed-sink {K} rule s (b ∷ bs) =
     let k = s .kept in
     let one = b ∷ [] in
     let P : Bool → Type 0 = λ v.
-      rule k (s .held) b ≡ v →
-      (cond v (fed (says rule) more (more s b) bs) (false, s) .1 ≡ holding (s .held ++ cond v (b ∷ beginning (rule k) (s .held ++ one) bs) []) (drop (length (cond v (b ∷ beginning (rule k) (s .held ++ one) bs) [])) (s .free)) k)
-      × (cond v (fed (says rule) more (more s b) bs) (false, s) .0 ≡ true → cond v (b ∷ beginning (rule k) (s .held ++ one) bs) [] ≡ b ∷ bs)
-      × (cond v (fed (says rule) more (more s b) bs) (false, s) .0 ≡ false → (x : ℕ) × (after : List ℕ) × (b ∷ bs ≡ cond v (b ∷ beginning (rule k) (s .held ++ one) bs) [] ++ x ∷ after) × (rule k (s .held ++ cond v (b ∷ beginning (rule k) (s .held ++ one) bs) []) x ≡ false))
+    rule k (s .held) b ≡ v →
+    (cond v (fed (says rule) more (more s b) bs) (false, s) .1 ≡ holding (s .held ++ cond v (b ∷ beginning (rule k) (s .held ++ one) bs) []) (drop (length (cond v (b ∷ beginning (rule k) (s .held ++ one) bs) [])) (s .free)) k)
+    × (cond v (fed (says rule) more (more s b) bs) (false, s) .0 ≡ true → cond v (b ∷ beginning (rule k) (s .held ++ one) bs) [] ≡ b ∷ bs)
+    × (cond v (fed (says rule) more (more s b) bs) (false, s) .0 ≡ false → (x : ℕ) × (after : List ℕ) × (b ∷ bs ≡ cond v (b ∷ beginning (rule k) (s .held ++ one) bs) [] ++ x ∷ after) × (rule k (s .held ++ cond v (b ∷ beginning (rule k) (s .held ++ one) bs) []) x ≡ false))
     in
     let next = fed-sink rule (more s b) bs in
     let taken = beginning (rule k) (s .held ++ one) bs in
     let next-place : 1 + length taken ≡ suc (length taken) = omega arith in
     let joined : (s .held ++ one) ++ taken ≡ s .held ++ b ∷ taken = append-assoc (s .held) one taken in
     let go : P (rule k (s .held) b) =
-      elim (rule k (s .held) b) as P [
-        | true ↦ λ _. (next .0 ∙ ap (λ (h : List ℕ). holding h (drop (length taken) (drop 1 (s .free))) k) joined ∙ ap (λ (f : List ℕ). holding (s .held ++ b ∷ taken) f k) (drop-drop (length taken) 1 (s .free) ∙ ap (λ (n : ℕ). drop n (s .free)) next-place),
-          λ e. ap (λ (t : List ℕ). b ∷ t) (next .1 e),
-          λ e. let n = next .2 e in (n .0, n .1, ap (λ (t : List ℕ). b ∷ t) (n .2), ap (λ (h : List ℕ). rule k h (n .0)) (sym joined) ∙ n .3))
-        | false ↦ λ q. (ap (λ (h : List ℕ). holding h (s .free) k) (sym (append-nil (s .held))),
-          λ e. absurd (false≢true e),
-          λ _. (b, bs, refl, ap (λ (h : List ℕ). rule k h b) (append-nil (s .held)) ∙ q))
-      ]
+    elim (rule k (s .held) b) as P [
+      | true ↦ λ _. (
+        next .0 ∙ ap (λ (h : List ℕ). holding h (drop (length taken) (drop 1 (s .free))) k) joined ∙ ap (λ (f : List ℕ). holding (s .held ++ b ∷ taken) f k) (drop-drop (length taken) 1 (s .free) ∙ ap (λ (n : ℕ). drop n (s .free)) next-place),
+        λ e. ap (λ (t : List ℕ). b ∷ t) (next .1 e),
+        λ e. let n = next .2 e in (n .0, n .1, ap (λ (t : List ℕ). b ∷ t) (n .2), ap (λ (h : List ℕ). rule k h (n .0)) (sym joined) ∙ n .3),
+      )
+      | false ↦ λ q. (
+        ap (λ (h : List ℕ). holding h (s .free) k) (sym (append-nil (s .held))),
+        λ e. absurd (false≢true e),
+        λ _. (b, bs, refl, ap (λ (h : List ℕ). rule k h b) (append-nil (s .held)) ∙ q),
+      )
+    ]
     in
     go refl
 

@@ -100,9 +100,9 @@ unfolding Beyond
 frame-large hs rest h ten =
     let bytes = hs ++ rest in
     let go : (o : Option (List ℕ)) → Beyond (length hs) o → framedFront bytes o ≡ Err TooLarge =
-      elim [
-        | None ↦ λ _. cond-false (ltb (length bytes) 10) _ _ (le-ltb (length bytes) 10 (omega (arith, length-append hs rest)))
-        | Some bs ↦ λ far. cond-false (leb (length bs) 10) _ _ (lt-leb (length bs) 10 (omega arith))
-      ]
+    elim [
+      | None ↦ λ _. cond-false (ltb (length bytes) 10) _ _ (le-ltb (length bytes) 10 (omega (arith, length-append hs rest)))
+      | Some bs ↦ λ far. cond-false (leb (length bs) 10) _ _ (lt-leb (length bs) 10 (omega arith))
+    ]
     in
     go (front bytes) (front-beyond hs rest h)

@@ -1,7 +1,10 @@
 pub mod Feeds
+pub mod Powers
 pub mod Groups
 pub mod Frames
 pub mod Signs
 pub mod Codes
 pub mod Numbers
 pub mod Sizes
+pub mod Scans
+pub mod Readers

@@ -54,9 +54,9 @@ half negative n k l = ⊎-elim (λ h. h) (λ h. absurd (omega (arith, groups-man
 halved : (negative : Bool) (n : ℕ) → suc n + suc n ≤ 128 ^ length (groups 64 negative n)
 halved negative n = at (length (groups 64 negative n)) refl
   where
-  at : (l : ℕ) → length (groups 64 negative n) ≡ l → suc n + suc n ≤ 128 ^ l
-  at zero e = absurd (omega (arith, framed-some (groups 64 negative n) (framed-groups 64 (omega arith) (omega arith) negative n)))
-  at (suc k) e = omega (arith, half negative n k e, pow-suc 128 k)
+    at : (l : ℕ) → length (groups 64 negative n) ≡ l → suc n + suc n ≤ 128 ^ l
+    at zero e = absurd (omega (arith, framed-some (groups 64 negative n) (framed-groups 64 (omega arith) (omega arith) negative n)))
+    at (suc k) e = omega (arith, half negative n k e, pow-suc 128 k)
 
 pub sleb-value : (z : ℤ) → signed (sleb z) ≡ z
 unfolding sleb

@@ -5,21 +5,16 @@ use native.Mathlib.Nat.{pow-suc}
 use native.Mathlib.Omega.{arith}
 use lib.IntN.{ℤ, pos, negsuc}
 use lib.ListN.{length}
-use lib.Pow.{pow-mono, pow-add}
+use lib.Pow.{pow-mono}
 use lib.Signed.{mag}
 use mathlib.Core.Logic.{⊎-elim}
 use Rattle.std.proofs.shelf.Tests.{cases-lt}
 use Rattle.codec.specs.Leb128.{uleb, sleb}
-use Rattle.codec.proofs.Groups.{framed-some, room-more}
+use Rattle.codec.proofs.Powers.{pow-seven}
+use Rattle.codec.proofs.Groups.{framed-some}
 use Rattle.codec.proofs.Numbers.{uleb-few, uleb-many, sleb-few, sleb-many, sleb-framed, unsigned-coding}
 
--- seven bits a byte
-pub pow-seven : (k : ℕ) → 2 ^ (7 * k) ≡ 128 ^ k
-pow-seven zero = refl
-pow-seven (suc k) =
-    subst (λ (e : ℕ). 2 ^ e ≡ 128 ^ suc k) (omega arith) (pow-add 2 (7 * k) 7 ∙ ap (λ (p : ℕ). p * 128) (pow-seven k) ∙ sym (pow-suc 128 k))
-
-uleb-some : (n : ℕ) → 1 ≤ length (uleb n)
+pub uleb-some : (n : ℕ) → 1 ≤ length (uleb n)
 uleb-some n = framed-some (uleb n) (unsigned-coding .codes n .framed)
 
 -- a code by the bytes that hold the number, and one fewer that do not
@@ -41,15 +36,15 @@ uleb-bits j n low high =
 pub sleb-size : (z : ℤ) → length (uleb (2 * mag z)) ≡ length (sleb z)
 sleb-size z = at (length (sleb z)) refl
   where
-  least : (k : ℕ) → length (sleb z) ≡ suc k → suc k ≤ length (uleb (2 * mag z))
-  least zero e = uleb-some (2 * mag z)
-  least (suc k) e =
-      let beyond : 64 * 128 ^ k ≤ mag z = ⊎-elim (λ h. absurd (omega (arith, sleb-few k z h))) (λ h. h) (cases-lt (mag z) (64 * 128 ^ k)) in
-      uleb-many k (2 * mag z) (omega arith)
+    least : (k : ℕ) → length (sleb z) ≡ suc k → suc k ≤ length (uleb (2 * mag z))
+    least zero e = uleb-some (2 * mag z)
+    least (suc k) e =
+        let beyond : 64 * 128 ^ k ≤ mag z = ⊎-elim (λ h. absurd (omega (arith, sleb-few k z h))) (λ h. h) (cases-lt (mag z) (64 * 128 ^ k)) in
+        uleb-many k (2 * mag z) (omega arith)
 
-  at : (l : ℕ) → length (sleb z) ≡ l → length (uleb (2 * mag z)) ≡ l
-  at zero e = absurd (omega (arith, framed-some (sleb z) (sleb-framed z)))
-  at (suc k) e =
-      let within : mag z < 64 * 128 ^ k = ⊎-elim (λ h. h) (λ h. absurd (omega (arith, sleb-many k z h))) (cases-lt (mag z) (64 * 128 ^ k)) in
-      let most : length (uleb (2 * mag z)) ≤ suc k = uleb-few k (2 * mag z) (omega arith) in
-      omega (arith, most, least k e)
+    at : (l : ℕ) → length (sleb z) ≡ l → length (uleb (2 * mag z)) ≡ l
+    at zero e = absurd (omega (arith, framed-some (sleb z) (sleb-framed z)))
+    at (suc k) e =
+        let within : mag z < 64 * 128 ^ k = ⊎-elim (λ h. h) (λ h. absurd (omega (arith, sleb-many k z h))) (cases-lt (mag z) (64 * 128 ^ k)) in
+        let most : length (uleb (2 * mag z)) ≤ suc k = uleb-few k (2 * mag z) (omega arith) in
+        omega (arith, most, least k e)

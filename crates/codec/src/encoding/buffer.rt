@@ -5,7 +5,6 @@ ghost use mathlib.Core.List.{[]};
 ghost use lib.ListN.{length, take, drop};
 ghost use denote.Ref.{now, name};
 ghost use Rattle.codec.specs.Sinks.{roomy};
-
 use crate::encoding::Sink;
 use crate::encoding::SinkRefused;
 

@@ -5,7 +5,6 @@ ghost use mathlib.Core.List.{List, []};
 ghost use lib.ListN.{length, take};
 ghost use denote.Ref.{now};
 ghost use Rattle.codec.specs.Sinks.{expecting};
-
 use crate::encoding::Sink;
 use crate::encoding::SinkRefused;
 

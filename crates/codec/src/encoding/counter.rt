@@ -2,7 +2,6 @@
 ghost use Prim.Native.Nat.{ℕ};
 ghost use mathlib.Core.Path.{_≡_};
 ghost use Rattle.codec.specs.Feed.{countable, counted};
-
 use crate::encoding::Output;
 use crate::encoding::SinkRefused;
 

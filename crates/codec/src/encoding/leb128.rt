@@ -9,7 +9,6 @@ ghost use Rattle.std.specs.Results.{isOk};
 ghost use Rattle.codec.specs.Feed.{Fed};
 ghost use Rattle.codec.specs.Sinks.{holding, Told};
 ghost use Rattle.codec.specs.Leb128.{unsigned, signed, group, groups, uleb, sleb, readUnsigned, readSigned, Returns};
-
 use crate::encoding::Output;
 use crate::encoding::Sink;
 use crate::encoding::SinkOutput;
@@ -40,7 +39,11 @@ fn write_groups<O: Output>(out: &mut O, n: u64, top: u64, negative: bool) -> Res
 fn magnitude(val: i64) -> u64
     ensures { λ r. ⌜ r ≡ mag val ⌝ }
 {
-    if val < 0 { (-1 - val) as u64 } else { val as u64 }
+    if val < 0 {
+        (-1 - val) as u64
+    } else {
+        val as u64
+    }
 }
 
 // The unsigned number in its shortest form.

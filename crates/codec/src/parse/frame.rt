@@ -6,9 +6,17 @@ ghost use lib.ListN.{length, take};
 ghost use Rattle.std.specs.Results.{Cases};
 ghost use Rattle.std.specs.declared.result.Result.the-variants.{Ok, Err};
 ghost use Rattle.codec.specs.Leb128.{frameAt};
-ghost use Rattle.codec.specs.Frames.{Found};
-
+ghost use Rattle.codec.specs.Frames.{worth, Found, FoundSigned, numberOf};
 use crate::parse::fault::NumberFault;
+
+// The most bytes that the code of a 64-bit number takes.
+pub const LONGEST: usize = 10;
+
+// A byte's high bit: another byte follows.
+const MORE: u8 = 0x80;
+
+// The highest bit of a group, which in the last one of a signed number is the sign.
+const SIGN: u8 = 0x40;
 
 // The groups of a number: what those before the last are worth, the last one, and how many bytes
 // they take.
@@ -34,8 +42,8 @@ fn at_place(bits: u8, i: usize) -> u64
 impl Frame {
     // The number that the groups make, where it fits.
     pub fn value(&self) -> u64
-        requires { ⌜ now self .low + now self .last * 128 ^ (now self .used - 1) < 2 ^ 64 ⌝ }
-        ensures { λ r. ⌜ r ≡ now (self .entry) .low + now (self .entry) .last * 128 ^ (now (self .entry) .used - 1) ⌝ }
+        requires { ⌜ worth (now self .low) (now self .last) (now self .used) < 2 ^ 64 ⌝ }
+        ensures { λ r. ⌜ r ≡ worth (now (self .entry) .low) (now (self .entry) .last) (now (self .entry) .used) ⌝ }
     {
         self.low + at_place(self.last, self.used - 1)
     }
@@ -47,7 +55,11 @@ impl Frame {
         ensures used { λ r. ⌜ r .used ≡ self .used ⌝ }
     {
         let ones = at_place(1, self.used - 1) - 1;
-        Frame { low: ones - self.low, last: 127 - self.last, used: self.used }
+        Frame {
+            low: ones - self.low,
+            last: 127 - self.last,
+            used: self.used,
+        }
     }
 }
 
@@ -57,13 +69,42 @@ pub fn frame_at(bytes: &[u8]) -> Result<Frame, NumberFault>
 {
     let mut low = 0;
     for (i, byte) in bytes.iter().enumerate() {
-        if *byte < 0x80 {
-            return Ok(Frame { low, last: *byte, used: i + 1 });
+        if *byte < MORE {
+            return Ok(Frame {
+                low,
+                last: *byte,
+                used: i + 1,
+            });
         }
-        if i == 9 {
+        if i + 1 == LONGEST {
             return Err(NumberFault::TooLarge);
         }
         low += at_place(*byte & 0x7f, i);
     }
     Err(NumberFault::CutShort)
+}
+
+// The same of a signed number: whether it is negative, and its groups, which are inverted there,
+// since -1 - n is n with every bit inverted.
+pub fn signed_frame_at(bytes: &[u8]) -> Result<(bool, Frame), NumberFault>
+    ensures { λ r. ⌜ Cases r (λ p. FoundSigned (now (bytes .entry)) (p .0) (p .1 .low) (p .1 .last) (p .1 .used)) (λ e. frameAt (now (bytes .entry)) ≡ Err e) ⌝ }
+{
+    let frame = frame_at(bytes)?;
+    if frame.last < SIGN {
+        Ok((false, frame))
+    } else {
+        Ok((true, frame.inverted()))
+    }
+}
+
+// The number that a sign and such bits make.
+pub fn number_of(negative: bool, bits: u64) -> i64
+    requires { ⌜ bits < 2 ^ 63 ⌝ }
+    ensures { λ r. ⌜ r ≡ numberOf negative bits ⌝ }
+{
+    if negative {
+        -1 - bits as i64
+    } else {
+        bits as i64
+    }
 }

@@ -1,9 +1,17 @@
 // How numbers are read: LEB128 as DWARF defines it, in its shortest form only.
 ghost use mathlib.Core.Path.{_≡_};
 ghost use Rattle.codec.specs.Leb128.{unsigned, signed, fitsU64, fitsI64, readUnsigned, readSigned, Exact};
-
 use crate::parse::fault::NumberFault;
+use crate::parse::frame::LONGEST;
 use crate::parse::frame::frame_at;
+use crate::parse::frame::number_of;
+use crate::parse::frame::signed_frame_at;
+
+// What a tenth group may hold, behind nine of 63 bits: the last bit of an unsigned number, and
+// nothing of a signed one, whose sign is told apart.
+const TENTH_UNSIGNED: u8 = 1;
+
+const TENTH_SIGNED: u8 = 0;
 
 // The unsigned number that the bytes start with, and how many bytes it takes.
 pub fn leb128_u64(bytes: &[u8]) -> Result<(u64, usize), NumberFault>
@@ -11,8 +19,7 @@ pub fn leb128_u64(bytes: &[u8]) -> Result<(u64, usize), NumberFault>
     ensures exact { λ r. ⌜ Exact unsigned fitsU64 (now (bytes .entry)) r ⌝ }
 {
     let frame = frame_at(bytes)?;
-    // nine groups are 63 bits
-    if frame.used == 10 && frame.last > 1 {
+    if frame.used == LONGEST && frame.last > TENTH_UNSIGNED {
         return Err(NumberFault::TooLarge);
     }
     if frame.used > 1 && frame.last == 0 {
@@ -26,18 +33,14 @@ pub fn leb128_i64(bytes: &[u8]) -> Result<(i64, usize), NumberFault>
     ensures answer { λ r. ⌜ r ≡ readSigned (now (bytes .entry)) ⌝ }
     ensures exact { λ r. ⌜ Exact signed fitsI64 (now (bytes .entry)) r ⌝ }
 {
-    let frame = frame_at(bytes)?;
-    // the highest bit is the sign, and -1 - n is n with every bit inverted
-    let negative = frame.last >= 0x40;
-    let frame = if negative { frame.inverted() } else { frame };
-    if frame.used == 10 && frame.last > 0 {
+    let (negative, frame) = signed_frame_at(bytes)?;
+    if frame.used == LONGEST && frame.last > TENTH_SIGNED {
         return Err(NumberFault::TooLarge);
     }
-    let magnitude = frame.value();
-    // one byte fewer leaves one bit fewer than its groups have, for the sign
-    if frame.used > 1 && magnitude >> (7 * frame.used - 8) == 0 {
+    let bits = frame.value();
+    // one byte fewer holds seven bits for each byte, less one for the sign
+    if frame.used > 1 && bits >> (7 * frame.used - 8) == 0 {
         return Err(NumberFault::Overlong);
     }
-    let number = if negative { -1 - magnitude as i64 } else { magnitude as i64 };
-    Ok((number, frame.used))
+    Ok((number_of(negative, bits), frame.used))
 }

@@ -14,9 +14,9 @@ returns-in-Break-tell g c =
     let i = c .loop-byte .byte-index in
     record {
       is =
-        sym (c .loop-byte .inv)
-        ∙ at-drop-more (fed (o .takes) (o .step) (o .state (c .loop-byte .out))) bs i 0 (c .loop-byte-test .taken)
-        ∙ fed-exit (drop (i + 1) bs) (c .from-residual .result) (c .from-residual .ensures .0) (c .in-Break-tell .ensures tt) .is;
+          sym (c .loop-byte .inv)
+          ∙ at-drop-more (fed (o .takes) (o .step) (o .state (c .loop-byte .out))) bs i 0 (c .loop-byte-test .taken)
+          ∙ fed-exit (drop (i + 1) bs) (c .from-residual .result) (c .from-residual .ensures .0) (c .in-Break-tell .ensures tt) .is;
     }
 
 pub loop-byte-again : need.loop-byte-again

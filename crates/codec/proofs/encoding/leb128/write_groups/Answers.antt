@@ -14,14 +14,14 @@ returns-in-Break-tell g c =
     let top = c .args .top in
     let negative = c .args .negative in
     let bytes : groups top negative n ≡ (128 + c .seven-bits .result) ∷ groups top negative (n / 128) =
-      groups-step top (c .pre .0) (c .pre .1) negative n (c .loop-rest-test .taken)
-      ∙ ap (λ (b : ℕ). (128 + b) ∷ groups top negative (n / 128)) (sym (c .seven-bits .ensures))
+    groups-step top (c .pre .0) (c .pre .1) negative n (c .loop-rest-test .taken)
+    ∙ ap (λ (b : ℕ). (128 + b) ∷ groups top negative (n / 128)) (sym (c .seven-bits .ensures))
     in
     record {
       is =
-        sym (c .loop-rest .inv)
-        ∙ ap (fed (o .takes) (o .step) (o .state (c .loop-rest .out))) bytes
-        ∙ fed-exit (groups top negative (n / 128)) (c .from-residual .result) (c .from-residual .ensures .0) (c .in-Break-tell .ensures tt) .is;
+          sym (c .loop-rest .inv)
+          ∙ ap (fed (o .takes) (o .step) (o .state (c .loop-rest .out))) bytes
+          ∙ fed-exit (groups top negative (n / 128)) (c .from-residual .result) (c .from-residual .ensures .0) (c .in-Break-tell .ensures tt) .is;
     }
 
 pub loop-rest-again : need.loop-rest-again
@@ -31,8 +31,8 @@ loop-rest-again g c =
     let top = c .args .top in
     let negative = c .args .negative in
     let bytes : groups top negative n ≡ (128 + c .seven-bits .result) ∷ groups top negative (n / 128) =
-      groups-step top (c .pre .0) (c .pre .1) negative n (c .loop-rest-test .taken)
-      ∙ ap (λ (b : ℕ). (128 + b) ∷ groups top negative (n / 128)) (sym (c .seven-bits .ensures))
+    groups-step top (c .pre .0) (c .pre .1) negative n (c .loop-rest-test .taken)
+    ∙ ap (λ (b : ℕ). (128 + b) ∷ groups top negative (n / 128)) (sym (c .seven-bits .ensures))
     in
     sym (ap (fed (o .takes) (o .step) (o .state (c .loop-rest .out))) bytes ∙ fed-on ((128 + c .seven-bits .result) ∷ []) (groups top negative (n / 128)) (c .in-Continue-tell .ensures tt))
     ∙ c .loop-rest .inv
@@ -43,7 +43,7 @@ returns g c =
     let n = c .loop-rest .rest in
     record {
       is =
-        sym (c .loop-rest .inv)
-        ∙ ap (fed (o .takes) (o .step) (o .state (c .loop-rest .out))) (groups-last (c .args .top) (c .pre .0) (c .pre .1) (c .args .negative) n (c .loop-rest-test .left) ∙ ap (λ (b : ℕ). b ∷ []) (sym (c .seven-bits-2 .ensures)))
-        ∙ c .tell-2 .ensures .is;
+          sym (c .loop-rest .inv)
+          ∙ ap (fed (o .takes) (o .step) (o .state (c .loop-rest .out))) (groups-last (c .args .top) (c .pre .0) (c .pre .1) (c .args .negative) n (c .loop-rest-test .left) ∙ ap (λ (b : ℕ). b ∷ []) (sym (c .seven-bits-2 .ensures)))
+          ∙ c .tell-2 .ensures .is;
     }

@@ -17,6 +17,6 @@ returns g c =
     let z = c .args .val in
     let passed = toZ w64 (ofZ w64 z) in
     let bytes : groups 64 (ltZ passed (pos 0)) (c .magnitude .result) ≡ sleb z =
-      ap (λ (m : ℕ). groups 64 (ltZ passed (pos 0)) m) (c .magnitude .ensures) ∙ sym (sleb-groups passed) ∙ ap sleb (toZ-ofZ w64 z (c .fits .val))
+    ap (λ (m : ℕ). groups 64 (ltZ passed (pos 0)) m) (c .magnitude .ensures) ∙ sym (sleb-groups passed) ∙ ap sleb (toZ-ofZ w64 z (c .fits .val))
     in
     record { wrote = fed-same bytes (c .write-groups .ensures); code = sleb-returns z (mag-fits z (c .fits .val .sfits)) }

@@ -19,7 +19,7 @@ returns-then-self c =
     record {
       answer = search needs;
       after =
-        ap (λ (h : List ℕ). holding h (drop (i + 1) (set xs i b)) (length (set xs i b), c .args .self .now .buf .name)) (take-more-set xs i b free)
-        ∙ ap (λ (f : List ℕ). holding (take i xs ++ b ∷ []) f (length (set xs i b), c .args .self .now .buf .name)) (drop-set-lt (i + 1) xs i b (omega arith) ∙ sym (drop-drop 1 i xs))
-        ∙ ap (λ (n : ℕ). holding (take i xs ++ b ∷ []) (drop 1 (drop i xs)) (n, c .args .self .now .buf .name)) (length-set xs i b);
+          ap (λ (h : List ℕ). holding h (drop (i + 1) (set xs i b)) (length (set xs i b), c .args .self .now .buf .name)) (take-more-set xs i b free)
+          ∙ ap (λ (f : List ℕ). holding (take i xs ++ b ∷ []) f (length (set xs i b), c .args .self .now .buf .name)) (drop-set-lt (i + 1) xs i b (omega arith) ∙ sym (drop-drop 1 i xs))
+          ∙ ap (λ (n : ℕ). holding (take i xs ++ b ∷ []) (drop 1 (drop i xs)) (n, c .args .self .now .buf .name)) (length-set xs i b);
     }

@@ -14,6 +14,6 @@ returns-then-self-byte c =
     record {
       answer = search needs;
       after =
-        ap (λ (h : List ℕ). holding h [] xs) (take-more xs i 0 (c .if-self .taken))
-        ∙ ap (λ (x : ℕ). holding (take i xs ++ x ∷ []) [] xs) (c .if-self-byte .taken);
+          ap (λ (h : List ℕ). holding h [] xs) (take-more xs i 0 (c .if-self .taken))
+          ∙ ap (λ (x : ℕ). holding (take i xs ++ x ∷ []) [] xs) (c .if-self-byte .taken);
     }

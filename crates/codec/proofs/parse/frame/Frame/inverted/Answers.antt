@@ -1,0 +1,7 @@
+use native.Mathlib.Omega.{arith}
+use Prim.Native.Nat.{_-_}
+use Rattle.codec.proofs.Powers.{pow-most}
+use Rattle.codec.proofs.parse.frame.Frame.inverted.Needs as need
+
+pub at-place-ones-requires : need.at-place-ones-requires
+at-place-ones-requires c κs = (omega arith, (omega (arith, pow-most (c .args .self .used - 1) 9 (omega arith)), omega arith))
