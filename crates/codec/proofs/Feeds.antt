@@ -60,9 +60,15 @@ pub refused-as : {T E : Type 0} (P : T → Type 0) (Q : E → Type 0) (r : Resul
 refused-as P Q (Ok x) e = absurd e
 refused-as P Q (Err y) e = e
 
--- what a loop keeps: what is left to write, from here, comes to what all of it comes to, from the start
-pub fed-on : {S : Type 0} {takes : S → ℕ → Bool} {step : S → ℕ → S} {s t : S} (a b : List ℕ) → Fed takes step s a true t → fed takes step s (a ++ b) ≡ fed takes step t b
-fed-on {S} {takes} {step} {s} {t} a b first = fed-then {a = a} {b = b} first (record { is = refl }) .is
+-- A loop that writes keeps this: what is left to write, from here, comes to what all of it comes to, from the start.
+-- Each turn writes a of what is left, and then b is left.
+module _ {S : Type 0} {takes : S → ℕ → Bool} {step : S → ℕ → S} {s t : S} {whole : Bool × S} (left a b : List ℕ) (inv : fed takes step s left ≡ whole) (parts : left ≡ a ++ b) where
+  pub fed-on : Fed takes step s a true t → fed takes step t b ≡ whole
+  fed-on first = sym (ap (fed takes step s) parts ∙ fed-then {a = a} {b = b} first (record { is = refl }) .is) ∙ inv
+
+  -- a turn that was refused a byte ends it: r is what the exit of the `?` returns
+  pub fed-stop : {T E : Type 0} (r : Result T E) → isErr r ≡ true → Fed takes step s a false t → whole ≡ (isOk r, t)
+  fed-stop r e first = sym inv ∙ ap (fed takes step s) parts ∙ fed-exit b r e first .is
 
 -- what a sink comes to when it is fed: whether all was taken, and the state
 came : {K : Type 0} → (K → Rule) → Holding K → List ℕ → Bool × Holding K → Type 0

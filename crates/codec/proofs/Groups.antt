@@ -68,6 +68,10 @@ module _ (top : ℕ) (some : 0 < top) (most : top ≤ 128) (negative : Bool) whe
   groups-step zero h = absurd (omega arith)
   groups-step (suc m) h = by-step m (suc m) h ∙ ap (λ (l : List ℕ). (128 + group negative (suc m % 128)) ∷ l) (by-turns m (suc m / 128) (suc m / 128) (omega arith) (omega arith))
 
+  -- the same, by the byte that is written
+  pub groups-next : (n bits : ℕ) → top ≤ n → bits ≡ group negative (n % 128) → groups top negative n ≡ (128 + bits) ∷ groups top negative (n / 128)
+  groups-next n bits h e = groups-step n h ∙ ap (λ (b : ℕ). (128 + b) ∷ groups top negative (n / 128)) (sym e)
+
   -- where few turns do, for computing at large numerals
   pub groups-by : (k n : ℕ) → n < top * 128 ^ k → groups top negative n ≡ groupsBy k top negative n
   groups-by zero n h = groups-last n (omega arith)

@@ -11,13 +11,14 @@ use lib.ListN.{length, take, drop}
 use lib.Pow.{pow-add}
 use lib.Signed.{mag}
 use Rattle.std.proofs.shelf.Bits.{mul-le, shr-split, shr-below, mod-below, pow-pos}
-use Rattle.std.proofs.shelf.Lists.{take-append-drop}
+use Rattle.std.proofs.shelf.Lists.{take-append-drop, length-take}
 use Rattle.std.proofs.shelf.Tests.{lt-ltb, le-ltb, cases-lt}
 use Rattle.std.specs.declared.result.Result.{Result}
 use Rattle.std.specs.declared.result.Result.the-variants.{Ok, Err}
+use Rattle.std.specs.Vec.{made}
 use Rattle.codec.specs.declared.parse.fault.NumberFault.{NumberFault}
 use Rattle.codec.specs.declared.parse.fault.NumberFault.the-variants.{TooLarge, Overlong}
-use Rattle.codec.specs.Leb128.{unsigned, signed, uleb, sleb, fitsU64, fitsI64, frameAt, judged, numberAt, Exact}
+use Rattle.codec.specs.Leb128.{unsigned, signed, uleb, sleb, fitsU64, fitsI64, frameAt, judged, numberAt, Exact, Used}
 use Rattle.codec.specs.Frames.{worth, Ended, Found, FoundSigned, numberOf}
 use Rattle.codec.proofs.Codes.{Coding, exact-ok, exact-err, judged-ok, judged-over, judged-large}
 use Rattle.codec.proofs.Groups.{framed-some}
@@ -26,10 +27,11 @@ use Rattle.codec.proofs.Signs.{signed-pos, signed-neg}
 use Rattle.codec.proofs.Sizes.{uleb-some}
 use Rattle.codec.proofs.Powers.{pow-seven, pow-most}
 
--- an answer that is what reading gives, and so exact
+-- an answer that is what reading gives, is exact so, and stays within the bytes
 pub record Answered {N : Type 0} (read : List ℕ → Result (N × ℕ) NumberFault) (value : List ℕ → N) (fits : N → Bool) (bytes : List ℕ) (r : Result (N × ℕ) NumberFault) : Type 0 where
   pub answer : r ≡ read bytes
   pub exact : Exact value fits bytes r
+  pub used : made r (λ p. Used bytes (p .1))
 
 -- the tests that were passed
 pub passed : {A B : Type 0} → (A × B) ⊎ (A → ⊥) → A → B
@@ -71,29 +73,38 @@ module _ {N : Type 0} {value : List ℕ → N} {fits : N → Bool} {code : N →
   pub answered-none : (e : NumberFault) → frameAt bytes ≡ Err e → Answered (numberAt value fits code) value fits bytes (Err e)
   answered-none e h =
       let was : numberAt value fits code bytes ≡ Err e = ap (judged value fits code) h in
-      record { answer = sym was; exact = subst (Exact value fits bytes) was (exact-err k bytes e h) }
+      record { answer = sym was; exact = subst (Exact value fits bytes) was (exact-err k bytes e h); used = tt }
 
   -- the exit of a `?`, whose error stays as it is
   pub answered-exit : (e : NumberFault) (r : Result (N × ℕ) NumberFault) → frameAt bytes ≡ Err e → r ≡ Err e → Answered (numberAt value fits code) value fits bytes r
   answered-exit e r h was = subst (Answered (numberAt value fits code) value fits bytes) (sym was) (answered-none e h)
 
   module _ (used : ℕ) (at : Ended bytes used) (few : used ≤ 10) (n : N) (v : value (take used bytes) ≡ n) where
-    answered : (r : Result (N × ℕ) NumberFault) → judged value fits code (Ok (take used bytes)) ≡ r → Answered (numberAt value fits code) value fits bytes r
-    answered r e =
+    answered : (r : Result (N × ℕ) NumberFault) → judged value fits code (Ok (take used bytes)) ≡ r → made r (λ p. Used bytes (p .1)) → Answered (numberAt value fits code) value fits bytes r
+    answered r e u =
         let was : numberAt value fits code bytes ≡ r = ap (judged value fits code) (at .frame) ∙ e in
         record {
           answer = sym was;
           exact = subst (Exact value fits bytes) was (exact-ok k bytes (take used bytes) (drop used bytes) (sym (take-append-drop used bytes)) (at .framed) (omega (arith, at .count)));
+          used = u;
         }
 
     pub answered-large : fits n ≡ false → Answered (numberAt value fits code) value fits bytes (Err TooLarge)
-    answered-large f = answered (Err TooLarge) (judged-large k (take used bytes) n v f)
+    answered-large f = answered (Err TooLarge) (judged-large k (take used bytes) n v f) tt
 
     pub answered-over : fits n ≡ true → length (code n) < used → Answered (numberAt value fits code) value fits bytes (Err Overlong)
-    answered-over f l = answered (Err Overlong) (judged-over k (take used bytes) n v f (omega (arith, at .count)))
+    answered-over f l = answered (Err Overlong) (judged-over k (take used bytes) n v f (omega (arith, at .count))) tt
+
+    some-used : Used bytes used
+    some-used =
+        record {
+          some = omega (arith, framed-some (take used bytes) (at .framed), at .count);
+          few = few;
+          within = omega (arith, at .count, length-take used bytes);
+        }
 
     pub answered-ok : fits n ≡ true → length (code n) ≡ used → Answered (numberAt value fits code) value fits bytes (Ok (n, used))
-    answered-ok f l = answered (Ok (n, used)) (judged-ok k (take used bytes) n v f (l ∙ sym (at .count)) ∙ ap (λ (u : ℕ). Ok (n, u)) (at .count))
+    answered-ok f l = answered (Ok (n, used)) (judged-ok k (take used bytes) n v f (l ∙ sym (at .count)) ∙ ap (λ (u : ℕ). Ok (n, u)) (at .count)) some-used
 
 -- the groups of a number within ten bytes
 module _ (low last used : ℕ) (some : 0 < used) (few : used ≤ 10) (below : low < 128 ^ (used - 1)) where

@@ -107,6 +107,12 @@ pub record Exact {N : Type 0} (value : List ℕ → N) (fits : N → Bool) (byte
   pub only : (n : N) (k : ℕ) → r ≡ Ok (n, k) → (code : List ℕ) × (rest : List ℕ) × (bytes ≡ code ++ rest) × Code value n code × (fits n ≡ true) × (k ≡ length code)
   pub all : (n : N) (code rest : List ℕ) → bytes ≡ code ++ rest → Code value n code → fits n ≡ true → r ≡ Ok (n, length code)
 
+-- How many bytes a reader may say that a number takes.
+pub record Used (bytes : List ℕ) (used : ℕ) : Type 0 where
+  pub some : 1 ≤ used
+  pub few : used ≤ 10
+  pub within : used ≤ length bytes
+
 -- What is written for a number: its code, which is the only one, of one to ten bytes; read with anything behind
 -- it, it gives the number and its length.
 pub record Returns {N : Type 0} (value : List ℕ → N) (read : List ℕ → Result (N × ℕ) NumberFault) (n : N) (bytes : List ℕ) : Type 0 where

@@ -10,7 +10,7 @@ ghost use Rattle.codec.specs.Frames.{worth, Found, FoundSigned, numberOf};
 use crate::parse::fault::NumberFault;
 
 // The most bytes that the code of a 64-bit number takes.
-pub const LONGEST: usize = 10;
+pub(crate) const LONGEST: usize = 10;
 
 // A byte's high bit: another byte follows.
 const MORE: u8 = 0x80;
@@ -21,10 +21,10 @@ const SIGN: u8 = 0x40;
 // The groups of a number: what those before the last are worth, the last one, and how many bytes
 // they take.
 #[derive(Drop)]
-pub struct Frame {
-    pub low: u64,
-    pub last: u8,
-    pub used: usize,
+pub(crate) struct Frame {
+    pub(crate) low: u64,
+    pub(crate) last: u8,
+    pub(crate) used: usize,
     ghost some: { 0 < used },
     ghost few: { used ≤ 10 },
     ghost group: { last < 128 },
@@ -41,7 +41,7 @@ fn at_place(bits: u8, i: usize) -> u64
 
 impl Frame {
     // The number that the groups make, where it fits.
-    pub fn value(&self) -> u64
+    pub(crate) fn value(&self) -> u64
         requires { ⌜ worth (now self .low) (now self .last) (now self .used) < 2 ^ 64 ⌝ }
         ensures { λ r. ⌜ r ≡ worth (now (self .entry) .low) (now (self .entry) .last) (now (self .entry) .used) ⌝ }
     {
@@ -49,7 +49,7 @@ impl Frame {
     }
 
     // The same number of groups, with every bit inverted.
-    pub fn inverted(self) -> Frame
+    pub(crate) fn inverted(self) -> Frame
         ensures low { λ r. ⌜ r .low + self .low + 1 ≡ 128 ^ (self .used - 1) ⌝ }
         ensures last { λ r. ⌜ r .last + self .last ≡ 127 ⌝ }
         ensures used { λ r. ⌜ r .used ≡ self .used ⌝ }
@@ -64,7 +64,7 @@ impl Frame {
 }
 
 // The number that the bytes start with: up to the first byte with a clear high bit.
-pub fn frame_at(bytes: &[u8]) -> Result<Frame, NumberFault>
+pub(crate) fn frame_at(bytes: &[u8]) -> Result<Frame, NumberFault>
     ensures { λ r. ⌜ Cases r (λ f. Found (now (bytes .entry)) (f .low) (f .last) (f .used)) (λ e. frameAt (now (bytes .entry)) ≡ Err e) ⌝ }
 {
     let mut low = 0;
@@ -86,7 +86,7 @@ pub fn frame_at(bytes: &[u8]) -> Result<Frame, NumberFault>
 
 // The same of a signed number: whether it is negative, and its groups, which are inverted there,
 // since -1 - n is n with every bit inverted.
-pub fn signed_frame_at(bytes: &[u8]) -> Result<(bool, Frame), NumberFault>
+pub(crate) fn signed_frame_at(bytes: &[u8]) -> Result<(bool, Frame), NumberFault>
     ensures { λ r. ⌜ Cases r (λ p. FoundSigned (now (bytes .entry)) (p .0) (p .1 .low) (p .1 .last) (p .1 .used)) (λ e. frameAt (now (bytes .entry)) ≡ Err e) ⌝ }
 {
     let frame = frame_at(bytes)?;
@@ -98,7 +98,7 @@ pub fn signed_frame_at(bytes: &[u8]) -> Result<(bool, Frame), NumberFault>
 }
 
 // The number that a sign and such bits make.
-pub fn number_of(negative: bool, bits: u64) -> i64
+pub(crate) fn number_of(negative: bool, bits: u64) -> i64
     requires { ⌜ bits < 2 ^ 63 ⌝ }
     ensures { λ r. ⌜ r ≡ numberOf negative bits ⌝ }
 {

@@ -1,6 +1,7 @@
 // How numbers are read: LEB128 as DWARF defines it, in its shortest form only.
 ghost use mathlib.Core.Path.{_≡_};
-ghost use Rattle.codec.specs.Leb128.{unsigned, signed, fitsU64, fitsI64, readUnsigned, readSigned, Exact};
+ghost use Rattle.std.specs.Vec.{made};
+ghost use Rattle.codec.specs.Leb128.{unsigned, signed, fitsU64, fitsI64, readUnsigned, readSigned, Exact, Used};
 use crate::parse::fault::NumberFault;
 use crate::parse::frame::LONGEST;
 use crate::parse::frame::frame_at;
@@ -17,6 +18,7 @@ const TENTH_SIGNED: u8 = 0;
 pub fn leb128_u64(bytes: &[u8]) -> Result<(u64, usize), NumberFault>
     ensures answer { λ r. ⌜ r ≡ readUnsigned (now (bytes .entry)) ⌝ }
     ensures exact { λ r. ⌜ Exact unsigned fitsU64 (now (bytes .entry)) r ⌝ }
+    ensures used { λ r. ⌜ made r (λ p. Used (now (bytes .entry)) (p .1)) ⌝ }
 {
     let frame = frame_at(bytes)?;
     if frame.used == LONGEST && frame.last > TENTH_UNSIGNED {
@@ -32,6 +34,7 @@ pub fn leb128_u64(bytes: &[u8]) -> Result<(u64, usize), NumberFault>
 pub fn leb128_i64(bytes: &[u8]) -> Result<(i64, usize), NumberFault>
     ensures answer { λ r. ⌜ r ≡ readSigned (now (bytes .entry)) ⌝ }
     ensures exact { λ r. ⌜ Exact signed fitsI64 (now (bytes .entry)) r ⌝ }
+    ensures used { λ r. ⌜ made r (λ p. Used (now (bytes .entry)) (p .1)) ⌝ }
 {
     let (negative, frame) = signed_frame_at(bytes)?;
     if frame.used == LONGEST && frame.last > TENTH_SIGNED {

@@ -19,7 +19,7 @@ unfolding readSigned
 returns-in-Break-negative c =
     let p = err-from-errBy (c .from-residual .result) (c .from-residual .ensures .1) in
     let a = answered-exit signed-coding (c .args .bytes .now) _ (c .from-residual .result) (c .in-Break-negative .ensures tt) (p .1 ∙ ap Err (p .2)) in
-    record { answer = a .answer; exact = a .exact }
+    record { answer = a .answer; exact = a .exact; used = a .used }
 
 pub returns-then-frame-gt-TENTH-SIGNED : need.returns-then-frame-gt-TENTH-SIGNED
 unfolding readSigned
@@ -30,7 +30,7 @@ returns-then-frame-gt-TENTH-SIGNED c =
     let z = numberOf (c .in-Continue-negative .negative) n in
     let large : 2 ^ 63 ≤ mag z = omega (arith, mag-number (c .in-Continue-negative .negative) n, worth-ten (f .low) (f .last) (f .used) (c .if-frame-eq-LONGEST .taken), c .if-frame-gt-TENTH-SIGNED .taken) in
     let a = answered-large signed-coding (c .args .bytes .now) (f .used) (found .ended) (f .few) z (found .value) (mag-large z large) in
-    record { answer = a .answer; exact = a .exact }
+    record { answer = a .answer; exact = a .exact; used = a .used }
 
 pub value-bits-requires : need.value-bits-requires
 value-bits-requires c κs =
@@ -49,7 +49,7 @@ returns-then-bits-frame-eq0 c =
     let m : mag z ≡ n = mag-number (c .in-Continue-negative .negative) n in
     let none : mag z / 2 ^ (7 * f .used - 8) ≡ 0 = ap (λ (k : ℕ). k / 2 ^ (7 * f .used - 8)) (m ∙ sym (c .value-bits .ensures)) ∙ c .if-bits-frame-eq0 .taken in
     let a = answered-over signed-coding (c .args .bytes .now) (f .used) (found .ended) (f .few) z (found .value) (mag-fits z (omega (arith, small, m))) (sleb-shorter z (f .used) (c .if-frame-gt1 .taken) none) in
-    record { answer = a .answer; exact = a .exact }
+    record { answer = a .answer; exact = a .exact; used = a .used }
 
 pub number-of-requires : need.number-of-requires
 number-of-requires c κs =
@@ -79,4 +79,4 @@ returns c =
     in
     let a = answered-ok signed-coding (c .args .bytes .now) (f .used) (found .ended) (f .few) z (found .value) (mag-fits z fits) (sleb-whole z (f .used) (f .some) within least) in
     let b = subst (λ (y : ℤ). Answered readSigned signed fitsI64 (c .args .bytes .now) (Ok (y, f .used))) (sym out) a in
-    record { answer = b .answer; exact = b .exact }
+    record { answer = b .answer; exact = b .exact; used = b .used }

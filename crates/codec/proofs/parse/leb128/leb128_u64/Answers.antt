@@ -16,7 +16,7 @@ unfolding readUnsigned
 returns-in-Break-frame c =
     let p = err-from-errBy (c .from-residual .result) (c .from-residual .ensures .1) in
     let a = answered-exit unsigned-coding (c .args .bytes .now) _ (c .from-residual .result) (c .in-Break-frame .ensures tt) (p .1 ∙ ap Err (p .2)) in
-    record { answer = a .answer; exact = a .exact }
+    record { answer = a .answer; exact = a .exact; used = a .used }
 
 pub returns-then-frame-gt-TENTH-UNSIGNED : need.returns-then-frame-gt-TENTH-UNSIGNED
 unfolding readUnsigned
@@ -26,7 +26,7 @@ returns-then-frame-gt-TENTH-UNSIGNED c =
     let n = worth (f .low) (f .last) (f .used) in
     let large : 2 ^ 64 ≤ n = omega (arith, worth-ten (f .low) (f .last) (f .used) (c .if-frame-eq-LONGEST .taken), c .if-frame-gt-TENTH-UNSIGNED .taken) in
     let a = answered-large unsigned-coding (c .args .bytes .now) (f .used) (found .ended) (f .few) n (found .value) (le-ltb n (2 ^ 64) large) in
-    record { answer = a .answer; exact = a .exact }
+    record { answer = a .answer; exact = a .exact; used = a .used }
 
 pub returns-then-frame-eq0 : need.returns-then-frame-eq0
 unfolding readUnsigned
@@ -37,7 +37,7 @@ returns-then-frame-eq0 c =
     let fits : n < 2 ^ 64 = worth-fits (f .low) (f .last) (f .used) (f .some) (f .few) (f .below) (f .group) (passed (c .else-frame-eq-LONGEST .either)) in
     let shorter = uleb-shorter (f .low) (f .last) (f .used) (f .some) (f .few) (f .below) (c .if-frame-gt1 .taken) (c .if-frame-eq0 .taken) in
     let a = answered-over unsigned-coding (c .args .bytes .now) (f .used) (found .ended) (f .few) n (found .value) (lt-ltb n (2 ^ 64) fits) shorter in
-    record { answer = a .answer; exact = a .exact }
+    record { answer = a .answer; exact = a .exact; used = a .used }
 
 pub value-requires : need.value-requires
 value-requires c κs =
@@ -56,4 +56,4 @@ returns c =
     let whole = uleb-whole (f .low) (f .last) (f .used) (f .some) (f .few) (f .below) (f .group) least in
     let a = answered-ok unsigned-coding (c .args .bytes .now) (f .used) (found .ended) (f .few) n (found .value) (lt-ltb n (2 ^ 64) fits) whole in
     let b = subst (λ (m : ℕ). Answered readUnsigned unsigned fitsU64 (c .args .bytes .now) (Ok (m, f .used))) (sym is) a in
-    record { answer = b .answer; exact = b .exact }
+    record { answer = b .answer; exact = b .exact; used = b .used }
