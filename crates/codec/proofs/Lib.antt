@@ -1,10 +1,9 @@
 pub mod Feeds
-pub mod Powers
-pub mod Groups
-pub mod Frames
-pub mod Signs
-pub mod Codes
-pub mod Numbers
 pub mod Sizes
 pub mod Scans
 pub mod Readers
+pub mod Tables
+pub mod Chars
+pub mod Grammar
+pub mod Decodes
+pub mod Texts

@@ -20,12 +20,12 @@ use Rattle.codec.specs.declared.parse.fault.NumberFault.{NumberFault}
 use Rattle.codec.specs.declared.parse.fault.NumberFault.the-variants.{TooLarge, Overlong}
 use Rattle.codec.specs.Leb128.{unsigned, signed, uleb, sleb, fitsU64, fitsI64, frameAt, judged, numberAt, Exact, Used}
 use Rattle.codec.specs.Frames.{worth, Ended, Found, FoundSigned, numberOf}
-use Rattle.codec.proofs.Codes.{Coding, exact-ok, exact-err, judged-ok, judged-over, judged-large}
-use Rattle.codec.proofs.Groups.{framed-some}
-use Rattle.codec.proofs.Numbers.{unsigned-coding, signed-coding, uleb-few, uleb-many, sleb-few, sleb-many, sleb-framed, mag-fits, mag-large}
-use Rattle.codec.proofs.Signs.{signed-pos, signed-neg}
+use Rattle.codec.specs.laws.Codes.{Coding, exact-ok, exact-err, judged-ok, judged-over, judged-large}
+use Rattle.codec.specs.laws.Groups.{framed-some}
+use Rattle.codec.specs.laws.Numbers.{unsigned-coding, signed-coding, uleb-few, uleb-many, sleb-few, sleb-many, sleb-framed, mag-fits, mag-large}
+use Rattle.codec.specs.laws.Signs.{signed-pos, signed-neg}
 use Rattle.codec.proofs.Sizes.{uleb-some}
-use Rattle.codec.proofs.Powers.{pow-seven, pow-most}
+use Rattle.codec.specs.laws.Powers.{pow-seven, pow-most}
 
 -- an answer that is what reading gives, is exact so, and stays within the bytes
 pub record Answered {N : Type 0} (read : List ℕ → Result (N × ℕ) NumberFault) (value : List ℕ → N) (fits : N → Bool) (bytes : List ℕ) (r : Result (N × ℕ) NumberFault) : Type 0 where

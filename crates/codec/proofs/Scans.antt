@@ -12,8 +12,8 @@ use Rattle.std.specs.declared.result.Result.the-variants.{Err}
 use Rattle.codec.specs.declared.parse.fault.NumberFault.the-variants.{CutShort, TooLarge}
 use Rattle.codec.specs.Leb128.{unsigned, Framed, frameAt}
 use Rattle.codec.specs.Frames.{Found}
-use Rattle.codec.proofs.Frames.{High, high-push, framed-high, unsigned-push, frame-framed, frame-cut, frame-large}
-use Rattle.codec.proofs.Powers.{pow-most}
+use Rattle.codec.specs.laws.Frames.{High, high-push, framed-high, unsigned-push, frame-framed, frame-cut, frame-large}
+use Rattle.codec.specs.laws.Powers.{pow-most}
 
 -- the group of a byte behind i others
 pub group-fits : (b i : ℕ) → i ≤ 9 → (bitAnd b 127 < 128) × ((bitAnd b 127) * 128 ^ i ≤ 127 * 128 ^ i)

@@ -10,9 +10,9 @@ use lib.Signed.{mag}
 use mathlib.Core.Logic.{⊎-elim}
 use Rattle.std.proofs.shelf.Tests.{cases-lt}
 use Rattle.codec.specs.Leb128.{uleb, sleb}
-use Rattle.codec.proofs.Powers.{pow-seven}
-use Rattle.codec.proofs.Groups.{framed-some}
-use Rattle.codec.proofs.Numbers.{uleb-few, uleb-many, sleb-few, sleb-many, sleb-framed, unsigned-coding}
+use Rattle.codec.specs.laws.Powers.{pow-seven}
+use Rattle.codec.specs.laws.Groups.{framed-some}
+use Rattle.codec.specs.laws.Numbers.{uleb-few, uleb-many, sleb-few, sleb-many, sleb-framed, unsigned-coding}
 
 pub uleb-some : (n : ℕ) → 1 ≤ length (uleb n)
 uleb-some n = framed-some (uleb n) (unsigned-coding .codes n .framed)

@@ -35,7 +35,7 @@ pub trait Output {
 
     ghost step: { State → ℕ → State };
 
-    // how many bytes it was told
+    // how many bytes it has taken
     ghost size: { State → ℕ };
 
     law grows: { (s : State) (b : ℕ) → size (step s b) ≡ size s + 1 };
@@ -44,7 +44,7 @@ pub trait Output {
     fn tell(&mut self, byte: u8) -> Result<(), SinkRefused>
         ensures { λ r. ⌜ Fed takes step (state (now (self .entry))) (byte ∷ []) (isOk r) (state (now (self .exit))) ⌝ };
 
-    // How many bytes it was told.
+    // How many bytes it has taken.
     fn told(&self) -> usize
         ensures { λ r. ⌜ r ≡ size (state (now (self .entry))) ⌝ };
 }

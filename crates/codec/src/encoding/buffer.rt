@@ -1,7 +1,6 @@
 // A sink over lent memory.
 ghost use Prim.Native.Nat.{ℕ, _≤_};
 ghost use mathlib.Core.Path.{_≡_};
-ghost use mathlib.Core.List.{[]};
 ghost use lib.ListN.{length, take, drop};
 ghost use denote.Ref.{now, name};
 ghost use Rattle.codec.specs.Sinks.{roomy};

@@ -1,8 +1,6 @@
 // How numbers are written: LEB128 as DWARF defines it, in its shortest form.
-ghost use Prim.Native.Nat.{ℕ, _*_, _^_, _<_, _≤_};
+ghost use Prim.Native.Nat.{_<_, _≤_};
 ghost use mathlib.Core.Path.{_≡_};
-ghost use mathlib.Core.Bool.{Bool, true, false};
-ghost use mathlib.Core.List.{List};
 ghost use lib.ListN.{length};
 ghost use lib.Signed.{mag};
 ghost use Rattle.std.specs.Results.{isOk};
@@ -35,7 +33,7 @@ fn write_groups<O: Output>(out: &mut O, n: u64, top: u64, negative: bool) -> Res
     out.tell(seven_bits(rest as u8, negative))
 }
 
-// The number itself, or what it lacks to -1 where it is negative: its bits, inverted there.
+// The number, or -1 less the number where it is negative: its bits, which are inverted there.
 fn magnitude(val: i64) -> u64
     ensures { λ r. ⌜ r ≡ mag val ⌝ }
 {
@@ -62,15 +60,19 @@ pub fn write_sleb<O: Output>(out: &mut O, val: i64) -> Result<(), SinkRefused>
     write_groups(out, magnitude(val), 64, val < 0)
 }
 
-// The same at a sink, by what it holds: the whole code, or the longest beginning that it took.
+// The unsigned number to a sink, by what it then holds: the whole code, or the longest beginning
+// that it took.
 pub fn put_uleb<S: Sink>(sink: &mut S, val: u64) -> Result<(), SinkRefused>
-    ensures { λ r. ⌜ Told rule (holding (held (now (sink .entry))) (free (now (sink .entry))) (kept (now (sink .entry)))) (uleb val) (isOk r) (holding (held (now (sink .exit))) (free (now (sink .exit))) (kept (now (sink .exit)))) ⌝ }
+    ensures told { λ r. ⌜ Told rule (holding (held (now (sink .entry))) (free (now (sink .entry))) (kept (now (sink .entry)))) (uleb val) (isOk r) (holding (held (now (sink .exit))) (free (now (sink .exit))) (kept (now (sink .exit)))) ⌝ }
+    ensures code { λ _. ⌜ Returns unsigned readUnsigned val (uleb val) ⌝ }
 {
     write_uleb(sink, val)
 }
 
+// The signed number to a sink, in the same words.
 pub fn put_sleb<S: Sink>(sink: &mut S, val: i64) -> Result<(), SinkRefused>
-    ensures { λ r. ⌜ Told rule (holding (held (now (sink .entry))) (free (now (sink .entry))) (kept (now (sink .entry)))) (sleb val) (isOk r) (holding (held (now (sink .exit))) (free (now (sink .exit))) (kept (now (sink .exit)))) ⌝ }
+    ensures told { λ r. ⌜ Told rule (holding (held (now (sink .entry))) (free (now (sink .entry))) (kept (now (sink .entry)))) (sleb val) (isOk r) (holding (held (now (sink .exit))) (free (now (sink .exit))) (kept (now (sink .exit)))) ⌝ }
+    ensures code { λ _. ⌜ Returns signed readSigned val (sleb val) ⌝ }
 {
     write_sleb(sink, val)
 }

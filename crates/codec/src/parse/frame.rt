@@ -1,10 +1,8 @@
-// The bytes of one number, before anything is said of its value.
+// The bytes of one number as groups of seven bits: where they end, and what they are worth.
 ghost use Prim.Native.Nat.{_+_, _-_, _*_, _^_, _<_, _≤_};
 ghost use mathlib.Core.Path.{_≡_};
-ghost use mathlib.Core.List.{List};
-ghost use lib.ListN.{length, take};
 ghost use Rattle.std.specs.Results.{Cases};
-ghost use Rattle.std.specs.declared.result.Result.the-variants.{Ok, Err};
+ghost use Rattle.std.specs.declared.result.Result.the-variants.{Err};
 ghost use Rattle.codec.specs.Leb128.{frameAt};
 ghost use Rattle.codec.specs.Frames.{worth, Found, FoundSigned, numberOf};
 use crate::parse::fault::NumberFault;
@@ -84,8 +82,8 @@ pub(crate) fn frame_at(bytes: &[u8]) -> Result<Frame, NumberFault>
     Err(NumberFault::CutShort)
 }
 
-// The same of a signed number: whether it is negative, and its groups, which are inverted there,
-// since -1 - n is n with every bit inverted.
+// The signed number that the bytes start with: whether it is negative, and its groups. Those of a
+// negative one are inverted, since -1 - n is n with every bit inverted.
 pub(crate) fn signed_frame_at(bytes: &[u8]) -> Result<(bool, Frame), NumberFault>
     ensures { λ r. ⌜ Cases r (λ p. FoundSigned (now (bytes .entry)) (p .0) (p .1 .low) (p .1 .last) (p .1 .used)) (λ e. frameAt (now (bytes .entry)) ≡ Err e) ⌝ }
 {
@@ -97,7 +95,7 @@ pub(crate) fn signed_frame_at(bytes: &[u8]) -> Result<(bool, Frame), NumberFault
     }
 }
 
-// The number that a sign and such bits make.
+// The signed number by its sign and its bits, which are inverted where it is negative.
 pub(crate) fn number_of(negative: bool, bits: u64) -> i64
     requires { ⌜ bits < 2 ^ 63 ⌝ }
     ensures { λ r. ⌜ r ≡ numberOf negative bits ⌝ }

@@ -8,8 +8,9 @@ use crate::parse::frame::frame_at;
 use crate::parse::frame::number_of;
 use crate::parse::frame::signed_frame_at;
 
-// What a tenth group may hold, behind nine of 63 bits: the last bit of an unsigned number, and
-// nothing of a signed one, whose sign is told apart.
+// The most that a tenth group may hold, since the nine before it have 63 bits: the last bit of an
+// unsigned number, and nothing of a signed one, whose sign is told apart and whose groups are
+// inverted where it is negative.
 const TENTH_UNSIGNED: u8 = 1;
 
 const TENTH_SIGNED: u8 = 0;
@@ -41,7 +42,7 @@ pub fn leb128_i64(bytes: &[u8]) -> Result<(i64, usize), NumberFault>
         return Err(NumberFault::TooLarge);
     }
     let bits = frame.value();
-    // one byte fewer holds seven bits for each byte, less one for the sign
+    // one byte fewer has seven bits for each, of which one is the sign
     if frame.used > 1 && bits >> (7 * frame.used - 8) == 0 {
         return Err(NumberFault::Overlong);
     }

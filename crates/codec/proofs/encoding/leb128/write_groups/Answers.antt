@@ -4,7 +4,7 @@ use Prim.Native.Nat.{ℕ, _+_, _/_}
 use Rattle.codec.specs.Feed.{fed}
 use Rattle.codec.specs.Leb128.{groups}
 use Rattle.codec.proofs.Feeds.{fed-on, fed-stop}
-use Rattle.codec.proofs.Groups.{groups-next, groups-last}
+use Rattle.codec.specs.laws.Groups.{groups-next, groups-last}
 use Rattle.codec.proofs.encoding.leb128.write_groups.Needs as need
 
 pub returns-in-Break-tell : need.returns-in-Break-tell

@@ -9,7 +9,7 @@ use mir.Val.{toZ, ofZ}
 use Rattle.std.proofs.shelf.Signed.{toZ-ofZ}
 use Rattle.codec.specs.Leb128.{sleb, groups}
 use Rattle.codec.proofs.Feeds.{fed-same}
-use Rattle.codec.proofs.Numbers.{sleb-returns, sleb-groups, mag-fits}
+use Rattle.codec.specs.laws.Numbers.{sleb-returns, sleb-groups, mag-fits}
 use Rattle.codec.proofs.encoding.leb128.write_sleb.Needs as need
 
 pub returns : need.returns

@@ -1,6 +1,6 @@
 use Rattle.std.proofs.shelf.Tests.{lt-ltb}
 use Rattle.codec.specs.Leb128.{uleb}
-use Rattle.codec.proofs.Numbers.{uleb-returns}
+use Rattle.codec.specs.laws.Numbers.{uleb-returns}
 use Rattle.codec.proofs.encoding.leb128.write_uleb.Needs as need
 
 pub returns : need.returns

@@ -1,7 +1,7 @@
 use mathlib.Core.Path.{ap}
 use Prim.Native.Nat.{ℕ, _*_}
 use native.Mathlib.Omega.{arith}
-use Rattle.codec.proofs.Powers.{pow-seven}
+use Rattle.codec.specs.laws.Powers.{pow-seven}
 use Rattle.codec.proofs.parse.frame.at_place.Needs as need
 
 pub returns : need.returns

@@ -1,7 +1,7 @@
 use native.Mathlib.Omega.{arith}
 use Prim.Native.Nat.{_+_}
 use lib.ListN.{getD}
-use Rattle.codec.proofs.Powers.{pow-most}
+use Rattle.codec.specs.laws.Powers.{pow-most}
 use Rattle.codec.proofs.Scans.{cut, found, high-more, low-more, low-below, too-long, group-fits}
 use Rattle.codec.proofs.parse.frame.frame_at.Needs as need
 

@@ -2,7 +2,7 @@ use mathlib.Core.Path.{_≡_}
 use Prim.Native.Nat.{_^_, _<_, _≤_}
 use lib.ListN.{take}
 use Rattle.codec.specs.Leb128.{unsigned}
-use Rattle.codec.proofs.Frames.{High}
+use Rattle.codec.specs.laws.Frames.{High}
 use Rattle.codec.proofs.parse.frame.frame_at.Given as given
 
 -- so far no byte ended the number, and `low` is what they are worth

@@ -9,7 +9,7 @@ use Rattle.std.proofs.shelf.Signed.{toZ-ofZ}
 use Rattle.std.specs.declared.result.Result.the-variants.{Ok, Err}
 use Rattle.codec.specs.Frames.{worth, numberOf}
 use Rattle.codec.specs.Leb128.{signed, fitsI64, readSigned}
-use Rattle.codec.proofs.Numbers.{signed-coding, mag-fits, mag-large}
+use Rattle.codec.specs.laws.Numbers.{signed-coding, mag-fits, mag-large}
 use Rattle.codec.proofs.Readers.{Answered, answered-exit, answered-large, answered-over, answered-ok, passed, worth-ten, worth-half, worth-twice, sleb-shorter, sleb-whole, mag-number}
 use Rattle.codec.proofs.parse.leb128.leb128_i64.Needs.{else-frame-gt1·by·then-frame-gt1·else-bits-frame-eq0, else-frame-gt1·by·else-frame-gt1}
 use Rattle.codec.proofs.parse.leb128.leb128_i64.Needs as need

@@ -7,7 +7,7 @@ use Rattle.std.proofs.shelf.Tests.{lt-ltb, le-ltb}
 use Rattle.std.specs.declared.result.Result.the-variants.{Ok, Err}
 use Rattle.codec.specs.Frames.{worth}
 use Rattle.codec.specs.Leb128.{unsigned, fitsU64, readUnsigned}
-use Rattle.codec.proofs.Numbers.{unsigned-coding}
+use Rattle.codec.specs.laws.Numbers.{unsigned-coding}
 use Rattle.codec.proofs.Readers.{Answered, answered-exit, answered-large, answered-over, answered-ok, passed, worth-ten, worth-fits, uleb-shorter, uleb-whole}
 use Rattle.codec.proofs.parse.leb128.leb128_u64.Needs as need
 

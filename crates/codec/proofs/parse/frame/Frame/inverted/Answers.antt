@@ -1,6 +1,6 @@
 use native.Mathlib.Omega.{arith}
 use Prim.Native.Nat.{_-_}
-use Rattle.codec.proofs.Powers.{pow-most}
+use Rattle.codec.specs.laws.Powers.{pow-most}
 use Rattle.codec.proofs.parse.frame.Frame.inverted.Needs as need
 
 pub at-place-ones-requires : need.at-place-ones-requires

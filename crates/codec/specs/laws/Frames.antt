@@ -106,3 +106,31 @@ frame-large hs rest h ten =
     ]
     in
     go (front bytes) (front-beyond hs rest h)
+
+-- what stands at the front is some of the bytes
+Inside : ℕ → Option (List ℕ) → Type 0
+Inside n None = Unit {0}
+Inside n (Some bs) = (1 ≤ length bs) × (length bs ≤ n)
+
+front-inside : (bytes : List ℕ) → Inside (length bytes) (front bytes)
+unfolding Inside
+front-inside [] = tt
+front-inside (b ∷ bytes) =
+    let further : (o : Option (List ℕ)) → Inside (length bytes) o → Inside (suc (length bytes)) (behind b o) = elim [ None ↦ λ _. tt | Some bs ↦ λ h. (omega arith, omega (arith, h .1)) ] in
+    elim (ltb b 128) as (λ v. Inside (suc (length bytes)) (cond v (Some (b ∷ [])) (behind b (front bytes)))) [ true ↦ (omega arith, omega arith) | false ↦ further (front bytes) (front-inside bytes) ]
+
+pub frame-inside : (bytes bs : List ℕ) → frameAt bytes ≡ Ok bs → (1 ≤ length bs) × (length bs ≤ length bytes)
+unfolding Inside
+frame-inside bytes bs e = at (front bytes) (front-inside bytes) e
+  where
+    at : (o : Option (List ℕ)) → Inside (length bytes) o → framedFront bytes o ≡ Ok bs → (1 ≤ length bs) × (length bs ≤ length bytes)
+    at None h e = none (ltb (length bytes) 10) e
+      where
+        none : (v : Bool) → cond v (Err CutShort) (Err TooLarge) ≡ Ok bs → (1 ≤ length bs) × (length bs ≤ length bytes)
+        none true e = let z : _≡_ {A = ℕ} 0 1 = cc in absurd (omega arith)
+        none false e = let z : _≡_ {A = ℕ} 0 1 = cc in absurd (omega arith)
+    at (Some cs) h e = some (leb (length cs) 10) e
+      where
+        some : (v : Bool) → cond v (Ok cs) (Err TooLarge) ≡ Ok bs → (1 ≤ length bs) × (length bs ≤ length bytes)
+        some true e = let same : cs ≡ bs = cc in subst (λ (l : List ℕ). (1 ≤ length l) × (length l ≤ length bytes)) same h
+        some false e = let z : _≡_ {A = ℕ} 0 1 = cc in absurd (omega arith)

@@ -12,10 +12,10 @@ use lib.Signed.{mag, ltZ}
 use Rattle.std.proofs.shelf.Tests.{ltb-true, lt-ltb, le-ltb, cases-lt}
 use mathlib.Core.Logic.{⊎-elim}
 use Rattle.codec.specs.Leb128.{unsigned, signed, Framed, Code, groups, uleb, sleb, fitsU64, fitsI64, readUnsigned, readSigned, Returns}
-use Rattle.codec.proofs.Groups.{framed-groups, groups-few, groups-many, groups-value, inverted-value, framed-some, room-more}
-use Rattle.codec.proofs.Frames.{unsigned-below}
-use Rattle.codec.proofs.Signs.{signed-pos, signed-neg, signed-mag, signed-same}
-use Rattle.codec.proofs.Codes.{Coding, code-returns}
+use Rattle.codec.specs.laws.Groups.{framed-groups, groups-few, groups-many, groups-value, inverted-value, framed-some, room-more}
+use Rattle.codec.specs.laws.Frames.{unsigned-below}
+use Rattle.codec.specs.laws.Signs.{signed-pos, signed-neg, signed-mag, signed-same}
+use Rattle.codec.specs.laws.Codes.{Coding, code-returns}
 
 -- how long a code is
 pub uleb-few : (k n : ℕ) → n < 128 * 128 ^ k → length (uleb n) ≤ suc k

@@ -12,7 +12,7 @@ use lib.Signed.{mag}
 use Rattle.std.proofs.shelf.Signed.{ints}
 use Rattle.std.proofs.shelf.Tests.{lt-ltb, le-ltb, cases-lt, cond-true, cond-false}
 use Rattle.codec.specs.Leb128.{unsigned, signed}
-use Rattle.codec.proofs.Frames.{unsigned-below}
+use Rattle.codec.specs.laws.Frames.{unsigned-below}
 
 pub signed-pos : (bs : List ℕ) → 2 * unsigned bs < 128 ^ length bs → signed bs ≡ pos (unsigned bs)
 signed-pos bs h = cond-true (ltb (2 * unsigned bs) (128 ^ length bs)) _ _ (lt-ltb _ _ h)

@@ -14,8 +14,8 @@ use Rattle.std.specs.declared.result.Result.the-variants.{Ok, Err}
 use Rattle.codec.specs.declared.parse.fault.NumberFault.{NumberFault}
 use Rattle.codec.specs.declared.parse.fault.NumberFault.the-variants.{TooLarge, Overlong}
 use Rattle.codec.specs.Leb128.{unsigned, Framed, Code, frameAt, judged, numberAt, Exact, Returns}
-use Rattle.codec.proofs.Frames.{framed-same, frame-framed}
-use Rattle.codec.proofs.Groups.{framed-some}
+use Rattle.codec.specs.laws.Frames.{framed-same, frame-framed, frame-inside}
+use Rattle.codec.specs.laws.Groups.{framed-some}
 
 -- what bytes are worth, which numbers fit, and a code for each
 pub record Coding {N : Type 0} (value : List ℕ → N) (fits : N → Bool) (code : N → List ℕ) : Type 0 where
@@ -53,9 +53,9 @@ module _ {N : Type 0} {value : List ℕ → N} {fits : N → Bool} {code : N →
       let l : length (code n) ≡ length bs = ap length (sym one) in
       ap (judged value fits code) (frame-framed bytes bs rest e (c .framed) (omega (arith, k .few n f, l))) ∙ judged-ok bs n (c .means) f l
 
-  -- and nothing else
-  read-only : (bs : List ℕ) → Framed bs → (n : N) (used : ℕ) → judged value fits code (Ok bs) ≡ Ok (n, used) → Code value n bs × (fits n ≡ true) × (used ≡ length bs)
-  read-only bs f n used e =
+  -- what an accepted number's bytes are
+  read-value : (bs : List ℕ) (n : N) (used : ℕ) → judged value fits code (Ok bs) ≡ Ok (n, used) → (fits n ≡ true) × (used ≡ length bs) × (value bs ≡ n) × (length (code n) ≡ length bs)
+  read-value bs n used e =
       let v = value bs in
       ⊎-elim
       (λ (g : fits v ≡ true).
@@ -65,13 +65,27 @@ module _ {N : Type 0} {value : List ℕ → N} {fits : N → Bool} {code : N →
       let both : _≡_ {A = N × ℕ} (v, length bs) (n, used) = cc in
       let vn : v ≡ n = ap (λ (q : N × ℕ). q .0) both in
       let lu : length bs ≡ used = ap (λ (q : N × ℕ). q .1) both in
-      let d = k .codes v in
-      let one : bs ≡ code v = framed-same bs (code v) f (d .framed) (sym (eqb-true _ _ l)) (k .same bs (code v) (sym (eqb-true _ _ l)) (sym (d .means))) in
-      (subst (λ (x : N). Code value x bs) vn (subst (λ (b : List ℕ). Code value v b) (sym one) d), ap fits (sym vn) ∙ g, sym lu))
+      (ap fits (sym vn) ∙ g, sym lu, vn, ap (λ (x : N). length (code x)) (sym vn) ∙ eqb-true _ _ l))
       (λ l. let was : _≡_ {A = Result (N × ℕ) NumberFault} (Err Overlong) (Ok (n, used)) = sym (cond-true (fits v) _ _ g ∙ cond-false (eqb (length (code v)) (length bs)) _ _ l) ∙ e in let z : _≡_ {A = ℕ} 0 1 = cc in absurd (omega arith))
       (cases-bool (eqb (length (code v)) (length bs))))
       (λ g. let was : _≡_ {A = Result (N × ℕ) NumberFault} (Err TooLarge) (Ok (n, used)) = sym (judged-large bs v refl g) ∙ e in let z : _≡_ {A = ℕ} 0 1 = cc in absurd (omega arith))
       (cases-bool (fits v))
+
+  -- nothing but a code is accepted
+  read-only : (bs : List ℕ) → Framed bs → (n : N) (used : ℕ) → judged value fits code (Ok bs) ≡ Ok (n, used) → Code value n bs × (fits n ≡ true) × (used ≡ length bs)
+  read-only bs f n used e =
+      let r = read-value bs n used e in
+      let d = k .codes n in
+      let one : bs ≡ code n = framed-same bs (code n) f (d .framed) (sym (r .3)) (k .same bs (code n) (sym (r .3)) (r .2 ∙ sym (d .means))) in
+      (subst (λ (b : List ℕ). Code value n b) (sym one) d, r .0, r .1)
+
+  -- whatever is read fits, and takes bytes that are there
+  pub read-fits : (bytes : List ℕ) (n : N) (used : ℕ) → numberAt value fits code bytes ≡ Ok (n, used) → (fits n ≡ true) × (1 ≤ used) × (used ≤ length bytes)
+  read-fits bytes n used e = at (frameAt bytes) refl e
+    where
+      at : (r : Result (List ℕ) NumberFault) → frameAt bytes ≡ r → judged value fits code r ≡ Ok (n, used) → (fits n ≡ true) × (1 ≤ used) × (used ≤ length bytes)
+      at (Err fault) f e = let z : _≡_ {A = ℕ} 0 1 = cc in absurd (omega arith)
+      at (Ok bs) f e = let r = read-value bs n used e in let i = frame-inside bytes bs f in (r .0, omega (arith, r .1, i .0), omega (arith, r .1, i .1))
 
   -- the two together, where the bytes have a number at their front, or have none
   pub exact-ok : (bytes bs rest : List ℕ) → bytes ≡ bs ++ rest → Framed bs → length bs ≤ 10 → Exact value fits bytes (numberAt value fits code bytes)
