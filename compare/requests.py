@@ -1,6 +1,6 @@
 #!/usr/bin/env python3
 """requests.py list: the committed requests of crates/vectors/stdin, in order.
-requests.py random SEED N: N generated requests, the same for the same seed.
+requests.py KIND SEED N: N generated requests of a kind (numbers or texts), the same for the same seed.
 
 Both print one request a line, in the form that docs/FORMAT.md gives under 'Requests'.
 """
@@ -106,6 +106,61 @@ def number_list():
                 "wsleb -0", "wsleb +7", "wsleb --7", "wuleb 007", "wuleb 1 2", "uleB 7f", "ULEB 7f", "nothing", "  uleb   7f  ", "\tsleb\t7f", "uleb 7F", "wuleb ٣")
 
 
+def text_list():
+    good = ["", "A", "plain words", "\x00", "\x7f", "\u0080", "\u07ff", "\u0800", "\ud7ff", "\ue000", "\ufffd", "\uffff", "\U00010000", "\U0010ffff",
+            "Schließzylinder für die Tür", "ключ от двери", "钥匙", "🔑🚪", "ascii before é and after", "a" * 15 + "é", "a" * 16 + "é", "é" + "a" * 40, "aé" * 20]
+    for t in good:
+        b = t.encode()
+        yield f"utf8 {hexed(b)}"
+        # cut at each place, and a wrong byte behind
+        for k in range(1, min(len(b), 6)):
+            yield f"utf8 {hexed(b[:k])}"
+            yield f"utf8 {hexed(b[k:])}"
+        for wrong in (0x80, 0xBF, 0xC0, 0xF5, 0xFF):
+            yield f"utf8 {hexed(b + bytes([wrong]))}"
+    # every first byte, alone and with each kind of second byte, and tails behind
+    seconds = (0x00, 0x41, 0x7F, 0x80, 0x8F, 0x90, 0x9F, 0xA0, 0xBF, 0xC0, 0xC2, 0xE0, 0xED, 0xF0, 0xF4, 0xFF)
+    for a in range(256):
+        yield f"utf8 {a:02x}"
+        for b in seconds if a >= 0xC0 else (0x41, 0x80):
+            yield f"utf8 {a:02x}{b:02x}"
+            if a >= 0xE0:
+                yield f"utf8 {a:02x}{b:02x}80"
+                yield f"utf8 {a:02x}{b:02x}80bf"
+                yield f"utf8 {a:02x}{b:02x}7f80"
+                yield f"utf8 {a:02x}{b:02x}80c0"
+    # surrogates and what lies beside them, overlong forms, past the last character
+    for form in ("ed9fbf", "eda080", "edafbf", "edb080", "edbfbf", "ee8080", "c080", "c1bf", "c280", "e08080", "e09fbf", "e0a080", "f0808080", "f08fbfbf", "f0908080", "f48fbfbf", "f4908080", "f5808080", "f8888080 80".replace(" ", ""), "fc8480808080"):
+        for before in ("", "41", "61" * 15, "61" * 16, "c3a9" * 8):
+            yield f"utf8 {before}{form}"
+            yield f"utf8 {before}{form}42"
+    yield from ("utf8", "utf8 4", "utf8 zz", "utf8 41 42", "utf8 -")
+
+
+def random_text(r):
+    kinds = ("ascii", "mixed", "bytes", "damaged", "long")
+    kind = r.choice(kinds)
+    if kind == "bytes":
+        b = bytes(r.choice((0x41, 0x7F, 0x80, 0x8F, 0x90, 0x9F, 0xA0, 0xBF, 0xC0, 0xC1, 0xC2, 0xDF, 0xE0, 0xE1, 0xEC, 0xED, 0xEE, 0xEF, 0xF0, 0xF1, 0xF3, 0xF4, 0xF5, 0xFF)) for _ in range(r.randrange(7)))
+        return "61" * r.choice((0, 0, 13, 14, 15, 16, 17)) + b.hex()
+    chars = []
+    for _ in range(r.randrange(24 if kind != "long" else 120)):
+        top = 0x80 if kind == "ascii" else r.choice((0x80, 0x80, 0x800, 0x10000, 0x110000))
+        c = r.randrange(top)
+        chars.append("?" if 0xD800 <= c < 0xE000 else chr(c))
+    b = bytearray("".join(chars).encode())
+    if kind == "damaged" and b:
+        what = r.randrange(3)
+        k = r.randrange(len(b))
+        if what == 0:
+            b[k] ^= 1 << r.randrange(8)
+        elif what == 1:
+            del b[k:]
+        else:
+            del b[k]
+    return b.hex()
+
+
 def integer(r, low, high):
     kind = r.randrange(3)
     if kind == 0:
@@ -139,13 +194,13 @@ def random_number(r):
 
 def main():
     if sys.argv[1] == "list":
-        for line in dict.fromkeys(number_list()):
+        for line in dict.fromkeys([*number_list(), *text_list()]):
             print(line)
-    else:
-        r = random.Random(int(sys.argv[2]))
-        out = sys.stdout
-        for _ in range(int(sys.argv[3])):
-            out.write(random_number(r) + "\n")
+        return
+    make = {"numbers": random_number, "texts": lambda r: f"utf8 {random_text(r) or '-'}"}[sys.argv[1]]
+    r = random.Random(int(sys.argv[2]))
+    for _ in range(int(sys.argv[3])):
+        sys.stdout.write(make(r) + "\n")
 
 
 main()

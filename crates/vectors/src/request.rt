@@ -1,5 +1,8 @@
 // One request and its answer.
 use crate::hex;
+use codec::element::Decodable;
+use codec::element::text::Text;
+use codec::element::text::TextDecodable;
 use codec::encoding::SinkRefused;
 use codec::encoding::buffer::BufferSink;
 use codec::encoding::buffer::BufferSinkSink;
@@ -34,6 +37,7 @@ pub(crate) fn answer(heap: Global, line: &[u8]) -> Result<String, AllocError> {
         "sleb" => read_signed(heap, word),
         "wuleb" => write_unsigned(heap, word),
         "wsleb" => write_signed(heap, word),
+        "utf8" => read_text(heap, word),
         _ => String::from_str(heap, BAD),
     }
 }
@@ -45,11 +49,12 @@ fn told<N: Display + Drop>(
 ) -> Result<String, AllocError> {
     match read {
         Ok((number, used)) => format!(heap, "ok,{number},{used}\n"),
-        Err(fault) => {
-            let cause = fault.cause();
-            format!(heap, "fault,{cause}\n")
-        }
+        Err(fault) => refused(heap, fault.cause()),
     }
+}
+
+fn refused(heap: Global, cause: &str) -> Result<String, AllocError> {
+    format!(heap, "fault,{cause}\n")
 }
 
 fn read_unsigned(heap: Global, word: &str) -> Result<String, AllocError> {
@@ -99,4 +104,20 @@ fn write_signed(heap: Global, word: &str) -> Result<String, AllocError> {
     let mut sink = BufferSink::new(&mut buf);
     let put = put_sleb(&mut sink, number);
     written(heap, &sink, put)
+}
+
+// Whether bytes are text.
+fn check_text(heap: Global, bytes: &[u8]) -> Result<String, AllocError> {
+    let mut text = Text::blank();
+    match text.fill(bytes) {
+        Ok(()) => String::from_str(heap, "ok\n"),
+        Err(fault) => refused(heap, fault.cause()),
+    }
+}
+
+fn read_text(heap: Global, word: &str) -> Result<String, AllocError> {
+    match hex::decode(heap, word.as_bytes())? {
+        Some(bytes) => check_text(heap, bytes.as_slice()),
+        None => String::from_str(heap, BAD),
+    }
 }

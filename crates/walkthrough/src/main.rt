@@ -1,12 +1,18 @@
 // A short tour of the library, told in print: numbers are measured, go out to a buffer and come
 // back; a full buffer refuses; what was written is compared; damaged bytes are refused with their
-// cause.
+// cause; a text goes out as an element and comes back.
 
 // writing a list of numbers, and reading it back
 mod list;
 // printing bytes
 mod show;
 
+use codec::element::Decodable;
+use codec::element::fault::ElementFault;
+use codec::element::put_element;
+use codec::element::text::Text;
+use codec::element::text::TextDecodable;
+use codec::element::text::TextEncodable;
 use codec::encoding::Output;
 use codec::encoding::Sink;
 use codec::encoding::SinkOutput;
@@ -144,11 +150,59 @@ fn damaged(rt: &LibcRuntime) -> Result<(), AnyError> {
     read_signed(rt, &[0xff, 0x7f])
 }
 
+// A text goes out as an element: the length of its bytes, and the bytes.
+fn text_out(rt: &LibcRuntime, words: &str) -> Result<(), AnyError> {
+    let heap = rt.alloc();
+    let mut text = Text::blank();
+    if let Err(fault) = text.fill(words.as_bytes()) {
+        return tell_element(rt, words.as_bytes(), fault);
+    }
+    let mut buf = [0; 16];
+    let mut sink = BufferSink::new(&mut buf);
+    if put_element(&mut sink, &text).is_ok() {
+        println!(
+            rt,
+            "The text {words} goes out as {}.",
+            hex(heap, sink.filled())?
+        )?;
+    }
+    text_in(rt, sink.filled())
+}
+
+// And in again: the text is a part of the bytes, of which nothing is copied.
+fn text_in(rt: &LibcRuntime, bytes: &[u8]) -> Result<(), AnyError> {
+    let mut text = Text::blank();
+    match text.decode(bytes) {
+        Ok(used) => println!(rt, "Read back, it is {}, from {used} bytes.", text.as_str())?,
+        Err(fault) => tell_element(rt, bytes, fault)?,
+    }
+    Ok(())
+}
+
+fn tell_element(rt: &LibcRuntime, bytes: &[u8], fault: ElementFault) -> Result<(), AnyError> {
+    let number = fault.number();
+    let cause = fault.cause();
+    println!(
+        rt,
+        "{} is refused as {number}: {cause}.",
+        hex(rt.alloc(), bytes)?
+    )?;
+    Ok(())
+}
+
+fn texts(rt: &LibcRuntime) -> Result<(), AnyError> {
+    text_out(rt, "Tür")?;
+    println!(rt, "Damaged texts are refused too.")?;
+    text_in(rt, &[0x04, 0x54, 0xc3, 0xbc])?;
+    text_in(rt, &[0x04, 0x54, 0xc3, 0x3c, 0x72])
+}
+
 fn run(rt: &LibcRuntime) -> Result<(), AnyError> {
     measure(rt)?;
     there_and_back(rt)?;
     full_buffer(rt)?;
-    damaged(rt)
+    damaged(rt)?;
+    texts(rt)
 }
 
 fn main(rt: LibcRuntime) -> Result<(), AnyError> {
