@@ -79,18 +79,16 @@ fn char_at(bytes: &[u8], at: usize) -> usize
     }
 }
 
-// Whether no byte is above 7F, as the greatest byte tells: one answer for the whole, so that the
-// loop is compiled to vectors.
+// Whether no byte is above 7F, as the bits of all of them together tell: one answer for the whole,
+// so that the loop is compiled to vectors.
 fn all_ascii(bytes: &[u8]) -> bool
     ensures { λ r. ⌜ ((rest : List ℕ) → r ≡ true → valid (now (bytes .entry) ++ rest) ≡ valid rest) ⌝ }
 {
-    let mut top = 0;
+    let mut bits = 0;
     for byte in bytes {
-        if *byte > top {
-            top = *byte;
-        }
+        bits |= *byte;
     }
-    top < ASCII
+    bits < ASCII
 }
 
 // Goes on from a place, character by character, until `stop` is reached or passed. The place
@@ -115,9 +113,6 @@ pub fn is_utf8(bytes: &[u8]) -> bool
     ensures answer { λ r. ⌜ r ≡ valid (now (bytes .entry)) ⌝ }
     ensures grammar { λ r. ⌜ Decides r (Octets (now (bytes .entry))) ⌝ }
 {
-    if all_ascii(bytes) {
-        return true;
-    }
     let mut at = 0;
     while at < bytes.len() {
         if bytes.len() - at >= BLOCK && all_ascii(&bytes[at..at + BLOCK]) {

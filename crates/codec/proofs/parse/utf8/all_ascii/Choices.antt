@@ -7,4 +7,4 @@ use Rattle.codec.proofs.parse.utf8.all_ascii.Given as given
 
 -- if none is above 7F so far, they count for nothing
 abbrev pub Inv-loop-byte : given.InvT-loop-byte
-Inv-loop-byte l = (rest : List ℕ) → l .top < 0x80 → valid (drop (l .byte-index) (l .bytes) ++ rest) ≡ valid (l .bytes ++ rest)
+Inv-loop-byte l = (rest : List ℕ) → l .bits < 0x80 → valid (drop (l .byte-index) (l .bytes) ++ rest) ≡ valid (l .bytes ++ rest)

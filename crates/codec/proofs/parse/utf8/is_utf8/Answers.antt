@@ -1,10 +1,10 @@
 use mathlib.Core.Path.{_≡_, refl, sym, ap, _∙_}
 use mathlib.Core.Bool.{true, false}
-use mathlib.Core.List.{List, [], _++_}
+use mathlib.Core.List.{List, _++_}
 use Prim.Native.Nat.{ℕ, _+_, _-_, _≤_}
 use native.Mathlib.Omega.{arith}
 use lib.ListN.{length, take, drop}
-use Rattle.std.proofs.shelf.Lists.{append-nil, at-drop-all, take-append-drop, drop-drop}
+use Rattle.std.proofs.shelf.Lists.{at-drop-all, take-append-drop, drop-drop}
 use Rattle.codec.specs.Utf8.{valid}
 use Rattle.codec.proofs.Grammar.{decides-octets}
 use Rattle.codec.proofs.parse.utf8.is_utf8.Needs as need
@@ -17,18 +17,11 @@ block bytes at n =
     ∙ ap (λ (l : List ℕ). take n (drop at bytes) ++ l) (sym (drop-drop n at bytes))
     ∙ take-append-drop n (drop at bytes)
 
-pub returns-then-all-ascii : need.returns-then-all-ascii
-unfolding valid
-returns-then-all-ascii c =
-    let bytes = c .args .bytes .now in
-    let e : true ≡ valid bytes = sym (ap valid (sym (append-nil bytes)) ∙ c .all-ascii .ensures [] (c .if-all-ascii .taken)) in
-    record { answer = e; grammar = decides-octets bytes true e }
-
-pub loop-at-again-then-all-ascii-2 : need.loop-at-again-then-all-ascii-2
-loop-at-again-then-all-ascii-2 c =
+pub loop-at-again-then-all-ascii : need.loop-at-again-then-all-ascii
+loop-at-again-then-all-ascii c =
     let bytes = c .args .bytes .now in
     let at = c .loop-at .at in
-    (sym (ap valid (sym (block bytes at 16)) ∙ c .all-ascii-then-bytes-at-ge-BLOCK .ensures (drop (at + 16) bytes) (c .if-all-ascii-2 .taken)) ∙ c .loop-at .inv .0, omega (arith, c .if-bytes-at-ge-BLOCK .taken, c .loop-at .inv .1))
+    (sym (ap valid (sym (block bytes at 16)) ∙ c .all-ascii .ensures (drop (at + 16) bytes) (c .if-all-ascii .taken)) ∙ c .loop-at .inv .0, omega (arith, c .if-bytes-at-ge-BLOCK .taken, c .loop-at .inv .1))
 
 pub loop-at-again : need.loop-at-again
 loop-at-again c = (sym (c .in-Some .ensures tt .0) ∙ c .loop-at .inv .0, c .in-Some .ensures tt .3)
