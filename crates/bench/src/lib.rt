@@ -1,4 +1,6 @@
 // What the speed comparison calls from Rust: whole loops over the library.
+#![tactic(auto)]
+
 ghost use Rattle.std.specs.Prelude.{◌≡◌};
 ghost use Rattle.codec.specs.Utf8.{valid};
 

@@ -1,5 +1,7 @@
 // The columns of a change: runs of elements and nulls, differences, flags and plain bytes.
 
+#![tactic(auto)]
+
 // faults with the path to their column
 pub mod col_error;
 // columns read by values

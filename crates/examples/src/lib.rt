@@ -1,4 +1,6 @@
 // The worked examples of the format, proved of the definitions that the contracts cite.
+#![tactic(auto)]
+
 ghost use Rattle.examples.specs.Columns.{Columns};
 ghost use Rattle.examples.specs.Numbers.{Numbers};
 

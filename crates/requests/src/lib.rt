@@ -1,6 +1,8 @@
 // Requests about numbers, texts and columns, one a line, and their answers, so that the library can
 // be compared with another implementation of the format line by line. docs/FORMAT.md has the requests.
 
+#![tactic(auto)]
+
 // bytes as hexadecimal digits
 mod hex;
 // columns that are read

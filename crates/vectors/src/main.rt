@@ -1,6 +1,8 @@
 // Answers requests from standard input, one a line, so that the library can be compared with
 // another implementation of the format line by line. docs/FORMAT.md has the requests.
 
+#![tactic(auto)]
+
 // bytes as hexadecimal digits
 mod hex;
 // one request and its answer

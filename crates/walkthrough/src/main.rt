@@ -2,6 +2,8 @@
 // back; a full buffer refuses; what was written is compared; damaged bytes are refused with their
 // cause; a text goes out as an element and comes back.
 
+#![tactic(auto)]
+
 // writing a list of numbers, and reading it back
 mod list;
 // printing bytes
