@@ -1,8 +1,6 @@
 -- What a reader that fills a place answers, by what reading gives.
 use Rattle.std.proofs.Common.{◌≡◌, ℕ, Ok, Err, Result, sym, ap, ◌∙◌}
-use Rattle.codec.specs.declared.parse.fault.NumberFault.{NumberFault}
 use Rattle.codec.specs.declared.element.fault.ElementFault.{ElementFault}
-use Rattle.codec.specs.declared.element.fault.ElementFault.TheVariants.{Number}
 use Rattle.codec.specs.Elements.{Reading, used, filled}
 
 -- the answer, and what the place then means

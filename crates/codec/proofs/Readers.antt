@@ -1,16 +1,16 @@
 -- What the readers answer, by the groups of the number that is there.
-use Rattle.std.proofs.Common.{◌≡◌, ℕ, zero, suc, ◌+◌, ◌-◌, ◌*◌, ◌/◌, ◌%◌, ◌^◌, ◌<◌, ◌≤◌, Bool, true, false, ◌⊎◌, List, length, take, drop, ℤ, pos, negsuc, IfOk, Ok, Err, Result, sym, refl, ap, ◌∙◌, subst, ⊎_elim, mul_comm, add-mul, pow-suc, arith, pow-add}
+use Rattle.std.proofs.Common.{◌≡◌, ℕ, zero, suc, ◌+◌, ◌-◌, ◌*◌, ◌/◌, ◌^◌, ◌<◌, ◌≤◌, Bool, true, false, ◌⊎◌, List, length, take, drop, ℤ, pos, IfOk, Ok, Err, Result, sym, refl, ap, ◌∙◌, subst, ⊎_elim, mul_comm, add-mul, pow-suc, arith, pow-add}
 use lib.Signed.{mag}
 use Rattle.std.proofs.lemmas.Nat.{mul-le, shr_split, shr_below, mod_below, pow_pos}
 use Rattle.std.proofs.lemmas.List.{take-append-drop, length-take}
-use Rattle.std.proofs.lemmas.Bool.{lt-ltb, le-ltb, cases_lt}
+use Rattle.std.proofs.lemmas.Bool.{cases_lt}
 use Rattle.codec.specs.declared.parse.fault.NumberFault.{NumberFault}
 use Rattle.codec.specs.declared.parse.fault.NumberFault.TheVariants.{TooLarge, Overlong}
-use Rattle.codec.specs.Leb128.{unsigned, signed, uleb, sleb, fits_u64, fits_i64, frame_at, judged, number_at, Exact, Used}
+use Rattle.codec.specs.Leb128.{uleb, sleb, frame_at, judged, number_at, Exact, Used}
 use Rattle.codec.specs.Frames.{worth, Ended, Found, FoundSigned, number_of}
 use Rattle.codec.specs.Laws.Codes.{Coding, exact_ok, exact_err, judged_ok, judged_over, judged_large}
 use Rattle.codec.specs.Laws.Groups.{framed_some}
-use Rattle.codec.specs.Laws.Numbers.{unsigned_coding, signed_coding, uleb_few, uleb_many, sleb_few, sleb_many, sleb_framed, mag_fits, mag_large}
+use Rattle.codec.specs.Laws.Numbers.{uleb_few, uleb_many, sleb_few, sleb_many, sleb_framed}
 use Rattle.codec.specs.Laws.Signs.{signed_pos, signed_neg}
 use Rattle.codec.proofs.Sizes.{uleb_some}
 use Rattle.codec.specs.Laws.Powers.{pow_seven, pow_most}

@@ -1,5 +1,5 @@
 -- One turn of the search for the end of a number.
-use Rattle.std.proofs.Common.{◌≡◌, ℕ, suc, ◌+◌, ◌-◌, ◌*◌, ◌%◌, ◌^◌, ◌<◌, ◌≤◌, List, [], ◌∷◌, ◌++◌, length, get_or, take, drop, Err, sym, refl, ap, ◌∙◌, subst, pow-suc, arith}
+use Rattle.std.proofs.Common.{◌≡◌, ℕ, ◌+◌, ◌-◌, ◌*◌, ◌%◌, ◌^◌, ◌<◌, ◌≤◌, List, [], ◌∷◌, ◌++◌, length, get_or, take, drop, Err, sym, ap, ◌∙◌, subst, pow-suc, arith}
 use lib.Bits.{bit_and}
 use Rattle.std.proofs.lemmas.Nat.{and_mask, mod_below, mul-le}
 use Rattle.std.proofs.lemmas.List.{take_more, take_all, take-append-drop, length-take-le}
@@ -7,7 +7,6 @@ use Rattle.codec.specs.declared.parse.fault.NumberFault.TheVariants.{CutShort, T
 use Rattle.codec.specs.Leb128.{unsigned, Framed, frame_at}
 use Rattle.codec.specs.Frames.{Found}
 use Rattle.codec.specs.Laws.Frames.{High, high_push, framed_high, unsigned_push, frame_framed, frame_cut, frame_large}
-use Rattle.codec.specs.Laws.Powers.{pow_most}
 
 -- the group of a byte behind i others
 pub group_fits : (b i : ℕ) → i ≤ 9 → (bit_and b 127 < 128) × ((bit_and b 127) * 128 ^ i ≤ 127 * 128 ^ i)

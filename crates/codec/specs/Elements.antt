@@ -3,7 +3,7 @@ use Rattle.std.specs.Prelude.{◌≡◌, ℕ, ◌+◌, ◌^◌, ◌<◌, ◌≤�
 use Rattle.codec.specs.declared.parse.fault.NumberFault.{NumberFault}
 use Rattle.codec.specs.declared.element.fault.ElementFault.{ElementFault}
 use Rattle.codec.specs.declared.element.fault.ElementFault.TheVariants.{Number, PastEnd, NotUtf8}
-use Rattle.codec.specs.Leb128.{uleb, sleb, read_unsigned, read_signed, fits_u64, fits_i64}
+use Rattle.codec.specs.Leb128.{uleb, read_unsigned, read_signed, fits_u64, fits_i64}
 use Rattle.codec.specs.Utf8.{valid}
 
 -- What bytes start with: an element and how many bytes its code takes, or the cause why there is none.

@@ -1,6 +1,5 @@
 -- What a sink holds after bytes were told to it.
 use Rattle.std.specs.Prelude.{◌≡◌, ℕ, Bool, true, false, cond, ◌&&◌, List, [], ◌∷◌, ◌++◌, length, drop, ◌==◌, nat_lt, slice_index}
-use Rattle.codec.specs.Feed.{Fed}
 
 -- on what is held, whether a next byte is taken
 abbrev pub Rule : Type 0

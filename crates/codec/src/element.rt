@@ -56,7 +56,7 @@ pub trait Decodable<'a>: Copy {
 pub trait Encodable<'a>: Decodable<'a> {
     // Writes the element's code, or is refused exactly where the output refuses a byte of it.
     fn encode<O: Output>(&self, out: &mut O) -> Result<(), SinkRefused>
-        ensures { Fed takes step (state out.old) (Self.Decodable.code (Self.Decodable.means self.now)) (is_ok result) (state out.new) };
+        ensures { Fed O.takes O.step (O.state out.old) (Self.Decodable.code (Self.Decodable.means self.now)) (is_ok result) (O.state out.new) };
 
     // Whether two elements are the same.
     fn same(&self, other: &Self) -> bool
@@ -69,8 +69,8 @@ pub fn put_element<'a, E: Encodable<'a>, S: Sink>(
     sink: &mut S,
     element: &E,
 ) -> Result<(), SinkRefused>
-    ensures told { Told rule (holding (held sink.old) (free sink.old) (kept sink.old)) (E.Decodable.code (E.Decodable.means element.now)) (is_ok result) (holding (held sink.new) (free sink.new) (kept sink.new)) }
-    ensures back { OnOk result (StandsFor E.Decodable.reads (E.Decodable.means element.now) (drop (length (held sink.old)) (held sink.new))) }
+    ensures told { Told S.rule (holding (S.held sink.old) (S.free sink.old) (S.kept sink.old)) (E.Decodable.code (E.Decodable.means element.now)) (is_ok result) (holding (S.held sink.new) (S.free sink.new) (S.kept sink.new)) }
+    ensures back { OnOk result (StandsFor E.Decodable.reads (E.Decodable.means element.now) (drop (length (S.held sink.old)) (S.held sink.new))) }
 {
     element.encode(sink)
 }

@@ -77,11 +77,11 @@ pub trait Sink {
 }
 
 impl<S: Sink> Output for S {
-    ghost State = { Holding Kept };
+    ghost State = { Holding S.Kept };
 
-    ghost state = { λ s. holding (held s) (free s) (kept s) };
+    ghost state = { λ s. holding (S.held s) (S.free s) (S.kept s) };
 
-    ghost takes = { says rule };
+    ghost takes = { says S.rule };
 
     ghost step = { more };
 
@@ -100,7 +100,7 @@ impl<S: Sink> Output for S {
 
 // All bytes, one after the other, up to the first that is refused.
 pub fn append<O: Output>(out: &mut O, bytes: &[u8]) -> Result<(), SinkRefused>
-    ensures { Fed takes step (state out.old) bytes.now (is_ok result) (state out.new) }
+    ensures { Fed O.takes O.step (O.state out.old) bytes.now (is_ok result) (O.state out.new) }
 {
     for byte in bytes {
         out.tell(*byte)?;
@@ -110,7 +110,7 @@ pub fn append<O: Output>(out: &mut O, bytes: &[u8]) -> Result<(), SinkRefused>
 
 // The same at a sink, by what it holds: all bytes, or the longest beginning that it took.
 pub fn put_bytes<S: Sink>(sink: &mut S, bytes: &[u8]) -> Result<(), SinkRefused>
-    ensures { Told rule (holding (held sink.old) (free sink.old) (kept sink.old)) bytes.now (is_ok result) (holding (held sink.new) (free sink.new) (kept sink.new)) }
+    ensures { Told S.rule (holding (S.held sink.old) (S.free sink.old) (S.kept sink.old)) bytes.now (is_ok result) (holding (S.held sink.new) (S.free sink.new) (S.kept sink.new)) }
 {
     append(sink, bytes)
 }

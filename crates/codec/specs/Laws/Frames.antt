@@ -1,10 +1,9 @@
 -- The bytes of one number: where they end, what they are worth, and that no others of that length are worth the same.
-use Rattle.std.specs.Prelude.{◌≡◌, ℕ, zero, suc, ◌+◌, ◌-◌, ◌*◌, ◌/◌, ◌%◌, ◌^◌, ◌<◌, ◌≤◌, Bool, true, false, cond, List, [], ◌∷◌, ◌++◌, length, Some, None, Ok, Err, Option, Result, nat_le, nat_lt, refl}
-use Rattle.std.proofs.Common.{sym, ap, ◌∙◌, subst, ⊎_elim, pow-suc, mul_assoc, mul_comm, mul-add, arith, length-append}
+use Rattle.std.specs.Prelude.{◌≡◌, ℕ, suc, ◌+◌, ◌*◌, ◌%◌, ◌^◌, ◌<◌, ◌≤◌, Bool, true, false, cond, List, [], ◌∷◌, ◌++◌, length, Some, None, Ok, Err, Option, nat_le, nat_lt, refl}
+use Rattle.std.proofs.Common.{sym, ap, ◌∙◌, subst, pow-suc, mul_assoc, mul_comm, arith, length-append}
 use Rattle.std.proofs.lemmas.Nat.{mod_below}
-use Rattle.std.proofs.lemmas.Bool.{lt-ltb, le-ltb, le-leb, lt-leb, cases_lt, cond-true, cond-false}
-use Rattle.codec.specs.declared.parse.fault.NumberFault.{NumberFault}
-use Rattle.codec.specs.declared.parse.fault.NumberFault.TheVariants.{CutShort, TooLarge, Overlong}
+use Rattle.std.proofs.lemmas.Bool.{lt-ltb, le-ltb, le-leb, lt-leb, cond-true, cond-false}
+use Rattle.codec.specs.declared.parse.fault.NumberFault.TheVariants.{CutShort, TooLarge}
 use Rattle.codec.specs.Leb128.{unsigned, Framed, behind, front, framed_front, frame_at}
 
 -- bytes with the high bit set

@@ -1,14 +1,13 @@
 -- The laws of the kinds: numbers and text.
-use Rattle.std.specs.Prelude.{◌≡◌, ℕ, ◌+◌, ◌^◌, ◌<◌, ◌≤◌, Bool, true, false, cond, leb, List, ◌++◌, length, take, drop, ℤ, Ok, Err, Result, nat_le, refl}
-use Rattle.std.proofs.Common.{sym, ap, ◌∙◌, subst, ⊎_elim, arith, length-append}
+use Rattle.std.specs.Prelude.{◌≡◌, ℕ, ◌+◌, ◌^◌, ◌≤◌, Bool, true, false, cond, leb, List, ◌++◌, length, take, drop, Ok, Err, Result, nat_le, refl}
+use Rattle.std.proofs.Common.{sym, ap, ◌∙◌, arith, length-append}
 use Rattle.std.proofs.lemmas.List.{append_assoc, take_at, drop_at, length-take}
-use Rattle.std.proofs.lemmas.Bool.{le-leb, leb-true, lt-ltb, ltb-true, cond-true, cond-false}
+use Rattle.std.proofs.lemmas.Bool.{le-leb, leb-true, lt-ltb, ltb-true, cond-true}
 use Rattle.codec.specs.declared.parse.fault.NumberFault.{NumberFault}
-use Rattle.codec.specs.declared.element.fault.ElementFault.{ElementFault}
-use Rattle.codec.specs.declared.element.fault.ElementFault.TheVariants.{Number, PastEnd, NotUtf8}
-use Rattle.codec.specs.Leb128.{unsigned, signed, fits_u64, fits_i64, uleb, sleb, judged, frame_at, number_at, read_unsigned, read_signed, Returns}
+use Rattle.codec.specs.declared.element.fault.ElementFault.TheVariants.{PastEnd, NotUtf8}
+use Rattle.codec.specs.Leb128.{fits_u64, uleb, sleb, number_at, read_unsigned, read_signed}
 use Rattle.codec.specs.Utf8.{valid}
-use Rattle.codec.specs.Elements.{Reading, Laws, numbered, reads_unsigned, reads_signed, UnsignedElement, SignedElement, text_code, text_part, text_behind, reads_text, TextElement}
+use Rattle.codec.specs.Elements.{Reading, Laws, numbered, reads_unsigned, reads_signed, UnsignedElement, SignedElement, text_code, text_behind, reads_text, TextElement}
 use Rattle.codec.specs.Laws.Codes.{Coding, code_returns, read_fits}
 use Rattle.codec.specs.Laws.Numbers.{unsigned_coding, signed_coding, uleb_returns}
 

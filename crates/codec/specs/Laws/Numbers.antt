@@ -1,10 +1,10 @@
 -- The two codings: unsigned and signed numbers of 64 bits.
-use Rattle.std.specs.Prelude.{◌≡◌, ℕ, zero, suc, ◌+◌, ◌-◌, ◌*◌, ◌^◌, ◌<◌, ◌≤◌, Bool, true, false, cond, List, [], ◌∷◌, length, ℤ, pos, negsuc, int_lt, refl}
-use Rattle.std.proofs.Common.{sym, ap, ◌∙◌, subst, pow-suc, arith, ⊎_elim}
+use Rattle.std.specs.Prelude.{◌≡◌, ℕ, zero, suc, ◌+◌, ◌*◌, ◌^◌, ◌<◌, ◌≤◌, Bool, true, false, List, [], ◌∷◌, length, ℤ, pos, negsuc, int_lt, refl}
+use Rattle.std.proofs.Common.{sym, ap, ◌∙◌, pow-suc, arith, ⊎_elim}
 use Rattle.std.specs.Int.Signed.{mag}
 use Rattle.std.proofs.lemmas.Bool.{ltb-true, lt-ltb, le-ltb, cases_lt}
-use Rattle.codec.specs.Leb128.{unsigned, signed, Framed, Code, groups, uleb, sleb, fits_u64, fits_i64, read_unsigned, read_signed, Returns}
-use Rattle.codec.specs.Laws.Groups.{framed_groups, groups_few, groups_many, groups_value, inverted_value, framed_some, room_more}
+use Rattle.codec.specs.Leb128.{unsigned, signed, Framed, groups, uleb, sleb, fits_u64, fits_i64, read_unsigned, read_signed, Returns}
+use Rattle.codec.specs.Laws.Groups.{framed_groups, groups_few, groups_many, groups_value, inverted_value, framed_some}
 use Rattle.codec.specs.Laws.Frames.{unsigned_below}
 use Rattle.codec.specs.Laws.Signs.{signed_pos, signed_neg, signed_mag, signed_same}
 use Rattle.codec.specs.Laws.Codes.{Coding, code_returns}

@@ -1,5 +1,5 @@
 -- Powers of 128: seven bits a byte.
-use Rattle.std.specs.Prelude.{◌≡◌, ℕ, zero, suc, ◌+◌, ◌*◌, ◌^◌, ◌<◌, ◌≤◌, refl}
+use Rattle.std.specs.Prelude.{◌≡◌, ℕ, zero, suc, ◌*◌, ◌^◌, ◌≤◌, refl}
 use Rattle.std.proofs.Common.{sym, ap, ◌∙◌, subst, pow-suc, arith, pow_mono, pow-add}
 
 pub pow_seven : (k : ℕ) → 2 ^ (7 * k) ≡ 128 ^ k

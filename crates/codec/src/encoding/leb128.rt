@@ -18,7 +18,7 @@ fn seven_bits(bits: u8, negative: bool) -> u8
 // The groups of `n`, the lowest first, up to the first that is below `top` and has none behind it.
 fn write_groups<O: Output>(out: &mut O, n: u64, top: u64, negative: bool) -> Result<(), SinkRefused>
     requires { (0 < top) × (top ≤ 128) }
-    ensures { Fed takes step (state out.old) (groups top negative n) (is_ok result) (state out.new) }
+    ensures { Fed O.takes O.step (O.state out.old) (groups top negative n) (is_ok result) (O.state out.new) }
 {
     let mut rest = n;
     while rest >= top {
@@ -41,7 +41,7 @@ fn magnitude(val: i64) -> u64
 
 // The unsigned number in its shortest form.
 pub fn write_uleb<O: Output>(out: &mut O, val: u64) -> Result<(), SinkRefused>
-    ensures wrote { Fed takes step (state out.old) (uleb val) (is_ok result) (state out.new) }
+    ensures wrote { Fed O.takes O.step (O.state out.old) (uleb val) (is_ok result) (O.state out.new) }
     ensures code { Returns unsigned read_unsigned val (uleb val) }
 {
     write_groups(out, val, 128, false)
@@ -49,7 +49,7 @@ pub fn write_uleb<O: Output>(out: &mut O, val: u64) -> Result<(), SinkRefused>
 
 // The signed number in its shortest form. The last group leaves its highest bit for the sign.
 pub fn write_sleb<O: Output>(out: &mut O, val: i64) -> Result<(), SinkRefused>
-    ensures wrote { Fed takes step (state out.old) (sleb val) (is_ok result) (state out.new) }
+    ensures wrote { Fed O.takes O.step (O.state out.old) (sleb val) (is_ok result) (O.state out.new) }
     ensures code { Returns signed read_signed val (sleb val) }
 {
     write_groups(out, magnitude(val), 64, val < 0)
@@ -58,7 +58,7 @@ pub fn write_sleb<O: Output>(out: &mut O, val: i64) -> Result<(), SinkRefused>
 // The unsigned number to a sink, by what it then holds: the whole code, or the longest beginning
 // that it took.
 pub fn put_uleb<S: Sink>(sink: &mut S, val: u64) -> Result<(), SinkRefused>
-    ensures told { Told rule (holding (held sink.old) (free sink.old) (kept sink.old)) (uleb val) (is_ok result) (holding (held sink.new) (free sink.new) (kept sink.new)) }
+    ensures told { Told S.rule (holding (S.held sink.old) (S.free sink.old) (S.kept sink.old)) (uleb val) (is_ok result) (holding (S.held sink.new) (S.free sink.new) (S.kept sink.new)) }
     ensures code { Returns unsigned read_unsigned val (uleb val) }
 {
     write_uleb(sink, val)
@@ -66,7 +66,7 @@ pub fn put_uleb<S: Sink>(sink: &mut S, val: u64) -> Result<(), SinkRefused>
 
 // The signed number to a sink, in the same words.
 pub fn put_sleb<S: Sink>(sink: &mut S, val: i64) -> Result<(), SinkRefused>
-    ensures told { Told rule (holding (held sink.old) (free sink.old) (kept sink.old)) (sleb val) (is_ok result) (holding (held sink.new) (free sink.new) (kept sink.new)) }
+    ensures told { Told S.rule (holding (S.held sink.old) (S.free sink.old) (S.kept sink.old)) (sleb val) (is_ok result) (holding (S.held sink.new) (S.free sink.new) (S.kept sink.new)) }
     ensures code { Returns signed read_signed val (sleb val) }
 {
     write_sleb(sink, val)

@@ -1,5 +1,5 @@
 // How numbers are read: LEB128 as DWARF defines it, in its shortest form only.
-ghost use Rattle.std.specs.Prelude.{◌≡◌};
+ghost use Rattle.std.specs.Prelude.{◌≡◌, IfOk};
 ghost use Rattle.codec.specs.Leb128.{unsigned, signed, fits_u64, fits_i64, read_unsigned, read_signed, Exact, Used};
 
 use crate::parse::fault::NumberFault;
@@ -16,7 +16,7 @@ const TENTH_SIGNED: u8 = 0;
 pub fn leb128_u64(bytes: &[u8]) -> Result<(u64, usize), NumberFault>
     ensures answer { result ≡ read_unsigned bytes.now }
     ensures exact { Exact unsigned fits_u64 bytes.now result }
-    ensures used { made result (λ p. Used bytes.now p.1) }
+    ensures used { IfOk result (λ p. Used bytes.now p.1) }
 {
     let frame = frame_at(bytes)?;
     if frame.used == LONGEST && frame.last > TENTH_UNSIGNED {
@@ -32,7 +32,7 @@ pub fn leb128_u64(bytes: &[u8]) -> Result<(u64, usize), NumberFault>
 pub fn leb128_i64(bytes: &[u8]) -> Result<(i64, usize), NumberFault>
     ensures answer { result ≡ read_signed bytes.now }
     ensures exact { Exact signed fits_i64 bytes.now result }
-    ensures used { made result (λ p. Used bytes.now p.1) }
+    ensures used { IfOk result (λ p. Used bytes.now p.1) }
 {
     let (negative, frame) = signed_frame_at(bytes)?;
     if frame.used == LONGEST && frame.last > TENTH_SIGNED {

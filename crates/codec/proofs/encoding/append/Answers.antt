@@ -9,7 +9,7 @@ returns-in_err-tell g c =
     let bs = c.args.bytes.now in
     let i = c.loop-byte.byte-index in
     let parts = drop_more bs i 0 c.loop-byte-test.true in
-    record { is = fed_stop (drop i bs) (get_or bs i 0 ∷ []) (drop (i + 1) bs) c.loop-byte.invariant parts c.from-residual.result c.from-residual.ensures.0 c.in_err-tell.ensures }
+    record { is = fed_stop (drop i bs) (get_or bs i 0 ∷ []) (drop (i + 1) bs) c.loop-byte.invariant parts c.from_residual.result c.from_residual.ensures.0 c.in_err-tell.ensures }
 
 pub loop-byte-preserved : goal.loop-byte-preserved
 loop-byte-preserved g c =
@@ -20,5 +20,5 @@ loop-byte-preserved g c =
 
 pub returns : goal.returns
 returns g c =
-    let o = g.O-as-Output in
+    let o = g.O.Output in
     record { is = sym c.loop-byte.invariant ∙ at_drop_all (fed o.takes o.step (o.state c.loop-byte.out)) c.args.bytes.now c.loop-byte.byte-index c.loop-byte-test.false }

@@ -1,4 +1,4 @@
-use Rattle.std.proofs.Common.{ℕ, ◌+◌, ◌/◌, List, [], ◌∷◌, sym, ap, ◌∙◌}
+use Rattle.std.proofs.Common.{ℕ, ◌+◌, ◌/◌, [], ◌∷◌, sym, ap, ◌∙◌}
 use Rattle.codec.specs.Feed.{fed}
 use Rattle.codec.specs.Leb128.{groups}
 use Rattle.codec.proofs.Feeds.{fed_on, fed_stop}
@@ -12,7 +12,7 @@ returns-in_err-tell g c =
     let negative = c.args.negative in
     let bits = c.seven_bits.result in
     let parts = groups_next top c.requires.0 c.requires.1 negative n bits c.loop-rest-test.true c.seven_bits.ensures in
-    record { is = fed_stop (groups top negative n) ((128 + bits) ∷ []) (groups top negative (n / 128)) c.loop-rest.invariant parts c.from-residual.result c.from-residual.ensures.0 c.in_err-tell.ensures }
+    record { is = fed_stop (groups top negative n) ((128 + bits) ∷ []) (groups top negative (n / 128)) c.loop-rest.invariant parts c.from_residual.result c.from_residual.ensures.0 c.in_err-tell.ensures }
 
 pub loop-rest-preserved : goal.loop-rest-preserved
 loop-rest-preserved g c =
@@ -25,7 +25,7 @@ loop-rest-preserved g c =
 
 pub returns : goal.returns
 returns g c =
-    let o = g.O-as-Output in
+    let o = g.O.Output in
     let n = c.loop-rest.rest in
     let last = groups_last c.args.top c.requires.0 c.requires.1 c.args.negative n c.loop-rest-test.false ∙ ap (λ (b : ℕ). b ∷ []) (sym c.seven_bits-2.ensures) in
     record { is = sym c.loop-rest.invariant ∙ ap (fed o.takes o.step (o.state c.loop-rest.out)) last ∙ c.tell-2.ensures.is }

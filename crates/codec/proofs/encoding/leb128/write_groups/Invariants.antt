@@ -6,7 +6,7 @@ use Rattle.codec.proofs.encoding.leb128.write_groups.Given as goal
 -- what is left to write gives the whole answer
 abbrev pub invariant-loop-rest : goal.invariant-loop-rest
 invariant-loop-rest g l =
-    let o = g.O-as-Output in
+    let o = g.O.Output in
     fed o.takes o.step (o.state l.out) (groups l.top l.negative l.rest) ≡ fed o.takes o.step (o.state l.initial.out) (groups l.top l.negative l.n)
 
 abbrev pub decreases-loop-rest : goal.decreases-loop-rest

@@ -1,4 +1,4 @@
-use Rattle.std.proofs.Common.{◌≡◌, ℕ, ◌+◌, ◌-◌, ◌*◌, ◌/◌, ◌^◌, ◌<◌, ◌≤◌, ℤ, Ok, Err, sym, ap, ◌∙◌, subst, arith, w64}
+use Rattle.std.proofs.Common.{◌≡◌, ℕ, ◌-◌, ◌*◌, ◌/◌, ◌^◌, ◌<◌, ◌≤◌, ℤ, Ok, Err, sym, ap, ◌∙◌, subst, arith, w64}
 use lib.Signed.{mag}
 use Rattle.std.proofs.lemmas.Result.{err_from_is_err_and}
 use Rattle.std.proofs.lemmas.Int.{to_z-of_z}
@@ -12,8 +12,8 @@ use Rattle.codec.proofs.parse.leb128.leb128_i64.Goals as goal
 pub returns-in_err-negative : goal.returns-in_err-negative
 unfolding read_signed
 returns-in_err-negative c =
-    let p = err_from_is_err_and c.from-residual.result c.from-residual.ensures.1 in
-    let a = answered_exit signed_coding c.args.bytes.now _ c.from-residual.result c.in_err-negative.ensures (p.1 ∙ ap Err p.2) in
+    let p = err_from_is_err_and c.from_residual.result c.from_residual.ensures.1 in
+    let a = answered_exit signed_coding c.args.bytes.now _ c.from_residual.result c.in_err-negative.ensures (p.1 ∙ ap Err p.2) in
     record { answer = a.answer; exact = a.exact; used = a.used }
 
 pub returns-then-frame-gt-TENTH_SIGNED : goal.returns-then-frame-gt-TENTH_SIGNED

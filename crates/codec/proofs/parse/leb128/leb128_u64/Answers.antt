@@ -10,8 +10,8 @@ use Rattle.codec.proofs.parse.leb128.leb128_u64.Goals as goal
 pub returns-in_err-frame : goal.returns-in_err-frame
 unfolding read_unsigned
 returns-in_err-frame c =
-    let p = err_from_is_err_and c.from-residual.result c.from-residual.ensures.1 in
-    let a = answered_exit unsigned_coding c.args.bytes.now _ c.from-residual.result c.in_err-frame.ensures (p.1 ∙ ap Err p.2) in
+    let p = err_from_is_err_and c.from_residual.result c.from_residual.ensures.1 in
+    let a = answered_exit unsigned_coding c.args.bytes.now _ c.from_residual.result c.in_err-frame.ensures (p.1 ∙ ap Err p.2) in
     record { answer = a.answer; exact = a.exact; used = a.used }
 
 pub returns-then-frame-gt-TENTH_UNSIGNED : goal.returns-then-frame-gt-TENTH_UNSIGNED

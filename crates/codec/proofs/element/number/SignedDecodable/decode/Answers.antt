@@ -9,8 +9,8 @@ use Rattle.codec.proofs.element.number.SignedDecodable.decode.Goals as goal
 pub returns-in_err-value : goal.returns-in_err-value
 unfolding reads_signed
 returns-in_err-value c =
-    let p = err_from_is_err_and c.from-residual.result c.from-residual.ensures.1 in
-    let d = decoded_err (reads_signed c.args.bytes.now) c.args.self.now.value c.from-residual.result _ (ap numbered (sym c.in_err-value.ensures.answer)) (p.1 ∙ ap Err p.2) in
+    let p = err_from_is_err_and c.from_residual.result c.from_residual.ensures.1 in
+    let d = decoded_err (reads_signed c.args.bytes.now) c.args.self.now.value c.from_residual.result _ (ap numbered (sym c.in_err-value.ensures.answer)) (p.1 ∙ ap Err p.2) in
     record { answer = d.answer; place = d.place; kept = λ _. refl }
 
 pub returns : goal.returns

@@ -4,4 +4,4 @@ use Rattle.codec.proofs.element.text.TextDecodable.blank.Goals as goal
 
 pub invariant_of-result : goal.invariant_of-result
 unfolding valid
-invariant_of-result c = (refl, (omega arith, tt))
+invariant_of-result c = record { sound = refl; short = omega arith }

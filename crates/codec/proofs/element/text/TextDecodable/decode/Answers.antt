@@ -1,4 +1,4 @@
-use Rattle.std.proofs.Common.{◌+◌, Err, sym, refl, ap, ◌∙◌}
+use Rattle.std.proofs.Common.{◌+◌, Err, refl, ap, ◌∙◌}
 use Rattle.std.proofs.lemmas.Result.{err_from_is_err_and}
 use Rattle.std.proofs.lemmas.Bool.{false≢true}
 use Rattle.codec.specs.Elements.{reads_text}
@@ -8,9 +8,9 @@ use Rattle.codec.proofs.element.text.TextDecodable.decode.Goals as goal
 
 pub returns-in_err-len : goal.returns-in_err-len
 returns-in_err-len c =
-    let p = err_from_is_err_and c.from-residual.result c.from-residual.ensures.1 in
+    let p = err_from_is_err_and c.from_residual.result c.from_residual.ensures.1 in
     let bytes = c.args.bytes.now in
-    let d = decoded_err (reads_text bytes) c.args.self.now.part.now c.from-residual.result _ (text_number bytes _ c.in_err-len.ensures.answer) (p.1 ∙ ap Err p.2) in
+    let d = decoded_err (reads_text bytes) c.args.self.now.part.now c.from_residual.result _ (text_number bytes _ c.in_err-len.ensures.answer) (p.1 ∙ ap Err p.2) in
     record { answer = d.answer; place = d.place; kept = λ _. refl }
 
 pub returns-then-len-bytes : goal.returns-then-len-bytes
@@ -22,12 +22,12 @@ returns-then-len-bytes c =
 
 pub returns-in_err-fill : goal.returns-in_err-fill
 returns-in_err-fill c =
-    let p = err_from_is_err_and c.from-residual-in_err-fill.result c.from-residual-in_err-fill.ensures.1 in
+    let p = err_from_is_err_and c.from_residual-in_err-fill.result c.from_residual-in_err-fill.ensures.1 in
     let bytes = c.args.bytes.now in
     let n = c.in_ok-len in
     let f = c.in_err-fill.ensures in
     let reading = text_not bytes n.len n.used n.ensures.answer n.ensures.used.within (n.used + n.len) c.if-len-bytes.false refl _ f.answer in
-    let d = decoded_err (reads_text bytes) c.args.self.now.part.now c.from-residual-in_err-fill.result _ reading (p.1 ∙ ap Err p.2) in
+    let d = decoded_err (reads_text bytes) c.args.self.now.part.now c.from_residual-in_err-fill.result _ reading (p.1 ∙ ap Err p.2) in
     record { answer = d.answer; place = f.place ∙ d.place; kept = λ _. f.kept refl }
 
 pub returns : goal.returns

@@ -1,5 +1,4 @@
-use Rattle.std.proofs.Common.{◌≡◌, ℕ, List, ◌++◌, length, ap}
-use Rattle.codec.specs.Leb128.{uleb}
+use Rattle.std.proofs.Common.{ap}
 use Rattle.codec.specs.Elements.{text_code}
 use Rattle.codec.proofs.Feeds.{fed_then, fed_exit, fed_same}
 use Rattle.codec.proofs.element.text.TextEncodable.encode.Goals as goal
@@ -8,7 +7,7 @@ pub returns-in_err-write_uleb : goal.returns-in_err-write_uleb
 unfolding text_code
 returns-in_err-write_uleb g c =
     let part = c.as_bytes-bytes.result.now in
-    fed_same (ap text_code c.as_bytes-bytes.ensures) (fed_exit part c.from-residual.result c.from-residual.ensures.0 c.in_err-write_uleb.ensures.wrote)
+    fed_same (ap text_code c.as_bytes-bytes.ensures) (fed_exit part c.from_residual.result c.from_residual.ensures.0 c.in_err-write_uleb.ensures.wrote)
 
 pub returns : goal.returns
 unfolding text_code
