@@ -11,7 +11,7 @@ use std::alloc::{AllocError, Global};
 
 // Writes the numbers in order, up to the first byte that is refused.
 pub(crate) fn write_list<O: Output>(out: &mut O, numbers: &[u64]) -> Result<(), SinkRefused>
-    ensures { Fed takes step (state out.old) (flat_map uleb numbers.now) (is_ok result) (state out.new) }
+    ensures { Fed O.takes O.step (O.state out.old) (flat_map uleb numbers.now) (is_ok result) (O.state out.new) }
 {
     for number in numbers {
         write_uleb(out, *number)?;

@@ -7,5 +7,5 @@ use Rattle.walkthrough.proofs.list.write_list.Given as goal
 -- what is left to write gives the whole answer
 abbrev pub invariant-loop-number : goal.invariant-loop-number
 invariant-loop-number g l =
-    let o = g.row.O-Output in
+    let o = g.O.Output in
     fed o.takes o.step (o.state l.out) (flat_map uleb (drop l.number-index l.numbers)) ≡ fed o.takes o.step (o.state l.initial.out) (flat_map uleb l.numbers)
