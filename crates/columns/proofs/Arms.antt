@@ -5,7 +5,7 @@ use Rattle.codec.specs.Leb128.{uleb, sleb}
 use Rattle.columns.specs.declared.rle.state.RleState.{RleState}
 use Rattle.columns.specs.declared.rle.state.RleState.TheVariants.{Empty, InitialNullRun, NullRun, LoneVal, Run, LiteralRun}
 use Rattle.columns.specs.Came.{arrived}
-use Rattle.columns.specs.Cut.{Group, nulls, run, literal, Apart, last, group_code, packed, written}
+use Rattle.columns.specs.Cut.{nulls, run, literal, group_code, packed, written}
 use Rattle.columns.specs.Spelled.{spelled}
 use Rattle.columns.specs.Machine.{Pending, Sound, Turn, to_come}
 use Rattle.columns.proofs.Parts.{shifted, literal_pop, literal_push, last_push, part_code, at_end, nulls_some, first_some, run_none, run_some, literal_none, literal_twice, none_alone}

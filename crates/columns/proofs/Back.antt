@@ -1,23 +1,22 @@
 -- What is written is read back.
-use Rattle.std.proofs.Common.{◌≡◌, ℕ, zero, suc, ◌+◌, ◌-◌, ◌^◌, ◌<◌, ◌≤◌, Bool, true, false, cond, eqb, ltb, leb, List, [], ◌∷◌, ◌++◌, map, length, drop, replicate, ℤ, pos, negsuc, Some, None, Ok, Err, Decides, Option, Result, sym, refl, ap, ◌∙◌, subst, append_assoc, add-zero, add_assoc, arith, length-append, length-drop, drop-drop, ne_eqb, le-leb}
+use Rattle.std.proofs.Common.{◌≡◌, ℕ, zero, suc, ◌+◌, ◌-◌, ◌^◌, ◌<◌, ◌≤◌, true, false, cond, eqb, ltb, leb, List, [], ◌∷◌, ◌++◌, map, length, drop, replicate, ℤ, pos, negsuc, Some, None, Ok, Err, Decides, Option, sym, refl, ap, ◌∙◌, subst, append_assoc, add-zero, arith, length-append, length-drop, drop-drop, ne_eqb, le-leb}
 use lib.ListN.{length-replicate}
 use borrow.Author.Tests.{lt-leb}
 use Rattle.std.proofs.lemmas.List.{map-append, drop_at, length-map}
 use Rattle.std.proofs.lemmas.Bool.{cond-true, cond-false, lt-ltb, false≢true}
 use Rattle.std.proofs.lemmas.Slice.Eq.{bytes_eq-Decides}
 use Rattle.std.specs.Str.{bytes_eq}
-use Rattle.codec.specs.declared.parse.fault.NumberFault.{NumberFault}
 use Rattle.codec.specs.Leb128.{uleb, sleb, read_unsigned, read_signed, fits_u64, fits_i64}
-use Rattle.codec.specs.Elements.{Reading, Laws, numbered, reads_unsigned, reads_signed}
+use Rattle.codec.specs.Elements.{Reading, Laws, reads_unsigned, reads_signed}
 use Rattle.codec.specs.Laws.Kinds.{unsigned_laws, signed_laws, numbered_ok}
 use Rattle.columns.specs.declared.fault.ColumnFault.TheVariants.{RunTooLong}
 use Rattle.columns.specs.declared.rle.run.Shape.{Shape}
 use Rattle.columns.specs.declared.rle.run.Shape.TheVariants as shapes
-use Rattle.columns.specs.Runs.{Outcome, number, element, and_then, shape, shape_at, reads_shape, reads_nulls, shaped, header, Kind, nulls as nullKind, same, literal as literalKind, Lead}
-use Rattle.columns.specs.Column.{Entry, null, item, fault, hollow, hollowed, written as writtenOut, spread, of_run, of_header, column, entries}
-use Rattle.columns.specs.Came.{arrived, came}
+use Rattle.columns.specs.Runs.{Outcome, number, element, and_then, shape, shape_at, reads_shape, reads_nulls, shaped, header, nulls as nullKind, same, literal as literalKind, Lead}
+use Rattle.columns.specs.Column.{Entry, null, item, written as writtenOut, spread, of_run, of_header, column, entries}
+use Rattle.columns.specs.Came.{came}
 use Rattle.columns.specs.Cut.{Group, nulls, run, literal, entries_in, flat, Largest, Whole, codes, group_code, group_codes, groups, any_element, written}
-use Rattle.columns.specs.Law.{spelt, coded, All, ColumnAt, ReadBack}
+use Rattle.columns.specs.Law.{spelt}
 use Rattle.columns.proofs.Cuts.{groups_flat, groups_largest}
 
 abbrev Codes : Type 0

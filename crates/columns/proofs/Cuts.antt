@@ -1,10 +1,10 @@
 -- The groups of a list are its one cut into groups that are as large as they can be.
-use Rattle.std.proofs.Common.{◌≡◌, ℕ, zero, suc, ◌<◌, ◌≤◌, Bool, true, false, cond, List, [], ◌∷◌, ◌++◌, map, length, replicate, Some, None, Decides, Option, sym, refl, ap, ◌∙◌, subst, arith}
-use Rattle.std.proofs.lemmas.Bool.{cond-true, cond-false, false≢true}
+use Rattle.std.proofs.Common.{◌≡◌, ℕ, zero, suc, Bool, true, false, cond, List, [], ◌∷◌, ◌++◌, map, replicate, Some, None, Decides, Option, sym, refl, ap, ◌∙◌, subst, arith}
+use Rattle.std.proofs.lemmas.Bool.{cond-true, cond-false}
 use Rattle.std.proofs.lemmas.Bool.Decides.{not_from_Decides}
 use Rattle.std.specs.Str.{bytes_eq}
 use Rattle.std.proofs.lemmas.Slice.Eq.{bytes_eq-Decides}
-use Rattle.columns.specs.Cut.{Group, nulls, run, literal, entries_in, flat, Apart, last, Whole, Before, Largest, literal_of, joined, groups}
+use Rattle.columns.specs.Cut.{Group, nulls, run, literal, entries_in, flat, Apart, Whole, Before, Largest, literal_of, joined, groups}
 use Rattle.columns.specs.Law.{TheCut}
 
 module _ {M : Type 0} where

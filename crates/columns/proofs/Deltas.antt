@@ -1,17 +1,16 @@
 -- Delta columns: what a step of the reader leaves, and that numbers return where their differences fit.
-use Rattle.std.proofs.Common.{◌≡◌, ℕ, ◌-◌, ◌^◌, ◌<◌, ◌≤◌, min, Bool, true, false, ltb, List, [], ◌∷◌, map, drop, ℤ, pos, negsuc, ◌+ℤ◌, ◌-ℤ◌, IfOk, Some, None, Ok, Err, Option, Result, sym, refl, ap, ◌∙◌, arith}
+use Rattle.std.proofs.Common.{◌≡◌, ℕ, ◌-◌, ◌^◌, min, true, List, [], ◌∷◌, map, ℤ, pos, negsuc, ◌+ℤ◌, ◌-ℤ◌, IfOk, Some, None, Ok, Err, Option, Result, refl, ap, ◌∙◌, arith}
 use Rattle.std.proofs.lemmas.Int.{ints}
 use Rattle.std.proofs.lemmas.Bool.{lt-ltb, ltb-true}
 use Rattle.std.specs.Int.{saturate_to_bits}
 use Rattle.codec.specs.Leb128.{sleb, fits_i64}
 use Rattle.codec.specs.Elements.{SignedElement, reads_signed}
 use Rattle.columns.specs.declared.fault.ColumnFault.{ColumnFault}
-use Rattle.columns.specs.declared.rle.run.Next.{Next}
 use Rattle.columns.specs.declared.rle.run.Next.TheVariants as next
 use Rattle.columns.specs.Column.{Entry, null, item, fault, hollow, first, first_placed, others, none, entries}
 use Rattle.columns.specs.Cut.{any_element}
-use Rattle.columns.specs.Law.{plain, coded, All, ReadBack}
-use Rattle.columns.specs.Deltas.{differences, sums, summed, first_number, codes_of, Fitting, DeltaAt, DeltaBack}
+use Rattle.columns.specs.Law.{plain, All, ReadBack}
+use Rattle.columns.specs.Deltas.{differences, sums, summed, first_number, codes_of, Fitting, DeltaBack}
 
 pub summed_none : (last : ℤ) (es : List (Entry ℤ)) → none (summed last es) ≡ none es
 summed_none last [] = refl

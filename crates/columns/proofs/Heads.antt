@@ -1,7 +1,6 @@
 -- What is known of a header or an element that was read.
 use Rattle.std.proofs.Common.{◌≡◌, ℕ, ◌+◌, ◌^◌, ◌<◌, ◌≤◌, Bool, true, false, cond, ltb, List, length, drop, ℤ, Ok, Err, Result, sym, refl, ap, ◌∙◌, arith, length-drop}
 use Rattle.codec.specs.declared.parse.fault.NumberFault.{NumberFault}
-use Rattle.codec.specs.declared.element.fault.ElementFault.{ElementFault}
 use Rattle.codec.specs.Leb128.{read_unsigned, read_signed}
 use Rattle.codec.specs.Elements.{Reading, Laws, used, filled, reads_unsigned, reads_signed}
 use Rattle.codec.specs.Laws.Kinds.{unsigned_laws, signed_laws}

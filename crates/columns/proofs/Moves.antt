@@ -1,8 +1,8 @@
 -- What a call's answer says of what is still to be written.
-use Rattle.std.proofs.Common.{◌≡◌, ℕ, Bool, true, false, List, ◌++◌, is_err, IfOk, Ok, Err, Result, sym, refl, ap, ◌∙◌, subst, MatchResult}
+use Rattle.std.proofs.Common.{◌≡◌, ℕ, Bool, true, false, List, ◌++◌, is_err, IfOk, Ok, Err, Result, refl, ap, ◌∙◌, MatchResult}
 use Rattle.std.proofs.lemmas.Bool.{false≢true}
 use Rattle.codec.specs.Feed.{fed, Fed}
-use Rattle.codec.proofs.Feeds.{fed_on, fed_exit, fed_same}
+use Rattle.codec.proofs.Feeds.{fed_on, fed_exit}
 
 module _ {S : Type 0} {takes : S → ℕ → Bool} {step : S → ℕ → S} where
   -- all of a was taken: b is left

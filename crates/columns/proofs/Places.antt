@@ -4,7 +4,7 @@ use Rattle.codec.specs.Elements.{Reading}
 use Rattle.columns.specs.declared.rle.run.Shape.{Shape}
 use Rattle.columns.specs.declared.rle.run.Shape.TheVariants as shapes
 use Rattle.columns.specs.Runs.{Outcome, element, and_then, Kind, nulls, same, literal, Lead, reads_shape, reads_nulls, shaped, header}
-use Rattle.columns.specs.Column.{Entry, null, item, fault, hollow, hollowed, written, spread, of_run, of_header, column, entries}
+use Rattle.columns.specs.Column.{Entry, null, item, hollowed, written, spread, of_run, of_header, column, entries}
 use Rattle.columns.specs.Law.{Every}
 use Rattle.columns.proofs.Heads.{element_ok}
 

@@ -1,9 +1,9 @@
 -- What is known at a sink and at a counter.
-use Rattle.std.proofs.Common.{◌≡◌, ℕ, ◌+◌, ◌^◌, ◌<◌, ◌≤◌, true, false, List, ◌++◌, length, drop, is_ok, IfOk, Ok, Err, Result, sym, refl, ap, ◌∙◌, ⊎_elim, arith}
+use Rattle.std.proofs.Common.{◌≡◌, ℕ, ◌^◌, ◌<◌, ◌≤◌, true, false, List, ◌++◌, length, drop, is_ok, IfOk, Ok, Err, Result, refl, ap, ◌∙◌, ⊎_elim, arith}
 use Rattle.std.proofs.lemmas.List.{drop_at}
 use Rattle.std.proofs.lemmas.Bool.{false≢true, cases_lt}
 use Rattle.codec.specs.Feed.{Fed, countable, counted}
-use Rattle.codec.specs.Sinks.{Rule, Holding, Told, beginning}
+use Rattle.codec.specs.Sinks.{Rule, Holding, Told}
 use Rattle.codec.proofs.Feeds.{fed_size, at_counter}
 
 -- what all was taken of stands behind what the sink held

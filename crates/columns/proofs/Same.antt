@@ -1,9 +1,8 @@
 -- Entries that were read are known by their codes, so what is read back are the elements themselves.
-use Rattle.std.proofs.Common.{◌≡◌, ℕ, ◌^◌, ◌<◌, true, List, [], ◌∷◌, map, length, drop, Some, None, Option, sym, refl, ap, ◌∙◌, arith}
+use Rattle.std.proofs.Common.{◌≡◌, ℕ, ◌^◌, ◌<◌, List, [], ◌∷◌, map, length, drop, Some, None, Option, sym, refl, ap, ◌∙◌, arith}
 use Rattle.codec.specs.Elements.{Reading, Laws}
 use Rattle.columns.specs.Column.{Entry, null, item, fault, hollow, entries}
-use Rattle.columns.specs.Cut.{written, any_element}
-use Rattle.columns.specs.Law.{plain, coded, spelt, All, Every, ColumnAt, ReadBack}
+use Rattle.columns.specs.Law.{plain, coded, spelt, All, Every, ReadBack}
 use Rattle.columns.proofs.Back.{AllOf, one_code, read_back, none_back}
 use Rattle.columns.proofs.Places.{every_entry}
 

@@ -1,6 +1,6 @@
 -- A header takes at least a byte, so the length of the data is fuel enough, and a turn of the loop that passes over
 -- empty runs changes nothing in what is settled.
-use Rattle.std.proofs.Common.{◌≡◌, ℕ, zero, suc, ◌+◌, ◌<◌, ◌≤◌, cond, eqb, leb, List, length, drop, Ok, Err, Result, sym, refl, ap, ◌∙◌, arith, eq-eqb, le-leb}
+use Rattle.std.proofs.Common.{◌≡◌, ℕ, zero, suc, ◌+◌, ◌<◌, ◌≤◌, cond, eqb, leb, List, length, drop, Ok, Err, sym, refl, ap, ◌∙◌, arith, eq-eqb, le-leb}
 use borrow.Author.Tests.{lt-leb}
 use Rattle.codec.specs.Elements.{Reading, Laws}
 use Rattle.columns.specs.declared.fault.ColumnFault.{ColumnFault}

@@ -1,13 +1,12 @@
 -- A text that is read stands in the data right before the end of its code.
-use Rattle.std.proofs.Common.{◌≡◌, ℕ, ◌+◌, ◌-◌, ◌≤◌, Bool, true, false, cond, leb, List, length, take, drop, Ok, Err, Result, sym, refl, ap, ◌∙◌, subst, arith, length-drop, length-take, drop-drop}
+use Rattle.std.proofs.Common.{◌≡◌, ℕ, ◌+◌, ◌-◌, ◌≤◌, Bool, true, false, cond, leb, List, length, take, drop, Ok, Err, Result, sym, refl, ap, ◌∙◌, arith, length-drop, length-take, drop-drop}
 use Rattle.std.proofs.lemmas.Bool.{leb-true}
 use Rattle.codec.specs.declared.parse.fault.NumberFault.{NumberFault}
-use Rattle.codec.specs.declared.element.fault.ElementFault.TheVariants.{NotUtf8, PastEnd, Number}
+use Rattle.codec.specs.declared.element.fault.ElementFault.TheVariants.{NotUtf8, PastEnd}
 use Rattle.codec.specs.Leb128.{read_unsigned}
 use Rattle.codec.specs.Elements.{Reading, reads_text, text_behind}
 use Rattle.codec.specs.Utf8.{valid}
 use Rattle.codec.specs.Laws.Kinds.{text_laws}
-use Rattle.columns.specs.Column.{entries}
 use Rattle.columns.specs.Values.{Stands, TextsStand}
 use Rattle.columns.proofs.Heads.{ok_parts, not_both}
 use Rattle.columns.proofs.Places.{every_entry}

@@ -3,7 +3,7 @@
 -- A run of n ≥ 2 equal elements is the signed number n and one code. A literal run of n elements with no two equal
 -- neighbours is -n and n codes; an element that repeats leaves the literal run and opens a run. A null run is the
 -- signed number 0 and the unsigned length. Nulls alone take no bytes.
-use Rattle.std.specs.Prelude.{◌≡◌, ℕ, suc, ◌≤◌, Bool, true, false, cond, List, [], ◌∷◌, ◌++◌, map, length, replicate, ℤ, pos, negsuc, Some, None, Option, ◌≢◌}
+use Rattle.std.specs.Prelude.{◌≡◌, ℕ, suc, ◌≤◌, Bool, true, false, cond, List, [], ◌∷◌, ◌++◌, map, length, replicate, pos, negsuc, Some, None, Option, ◌≢◌}
 use Rattle.std.specs.Str.{bytes_eq}
 use Rattle.codec.specs.Leb128.{uleb, sleb}
 

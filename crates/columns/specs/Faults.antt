@@ -1,7 +1,6 @@
 -- The faults of columns: how the faults below become theirs, the number of each and its cause in words.
 use Rattle.std.specs.Prelude.{ℕ, List, codes}
 use Rattle.codec.specs.declared.parse.fault.NumberFault.{NumberFault}
-use Rattle.codec.specs.declared.element.fault.ElementFault.{ElementFault}
 use Rattle.codec.specs.declared.element.fault.ElementFault.TheVariants.{Number}
 use Rattle.codec.specs.Refusals.{element_number, element_cause}
 use Rattle.columns.specs.declared.fault.ColumnFault.{ColumnFault}

@@ -1,5 +1,5 @@
 -- What a run column that was written is: how its list is cut, what is read from it, and how long it is.
-use Rattle.std.specs.Prelude.{◌≡◌, ℕ, ◌+◌, ◌≤◌, true, false, List, [], ◌∷◌, map, length, drop, Some, None, Option}
+use Rattle.std.specs.Prelude.{◌≡◌, ℕ, ◌+◌, true, false, List, [], ◌∷◌, map, length, drop, Some, None, Option}
 use Rattle.std.specs.Str.{bytes_eq}
 use Rattle.codec.specs.Elements.{Reading}
 use Rattle.columns.specs.Column.{Entry, null, item, fault, hollow, entries}

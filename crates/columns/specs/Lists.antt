@@ -1,5 +1,5 @@
 -- Lists of values as lists of codes.
-use Rattle.std.specs.Prelude.{◌≡◌, ℕ, ◌<◌, List, map, length, Option}
+use Rattle.std.specs.Prelude.{ℕ, ◌<◌, List, map, length, Option}
 use Rattle.std.proofs.Common.{sym, subst}
 use Rattle.std.proofs.lemmas.List.{length-map}
 use Rattle.columns.specs.Law.{coded}

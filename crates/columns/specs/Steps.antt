@@ -1,6 +1,6 @@
 -- What the reader of a run column answers next, from where it stands in the data and what is left of its run. The
 -- meaning of a column is in `Column`; these steps only tie the code to it.
-use Rattle.std.specs.Prelude.{ℕ, zero, suc, ◌+◌, ◌-◌, Bool, true, false, cond, List, [], ◌∷◌, length, drop, Some, None, Ok, Err, Option, Result, ◌==◌, nat_le}
+use Rattle.std.specs.Prelude.{ℕ, zero, suc, ◌+◌, ◌-◌, Bool, true, false, cond, List, length, drop, Some, None, Ok, Err, Option, Result, ◌==◌, nat_le}
 use Rattle.codec.specs.Elements.{Reading}
 use Rattle.columns.specs.declared.fault.ColumnFault.{ColumnFault}
 use Rattle.columns.specs.declared.rle.run.Next.{Next}

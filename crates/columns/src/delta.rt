@@ -34,9 +34,8 @@ pub(crate) struct Differences<N> {
 }
 
 // A delta column that is read: the column of its differences, and the last number.
+#[derive(Clone, Copy)]
 pub struct DeltaDecoder<'a> {
     rle: RleDecoder<'a, Signed>,
     absolute_val: i64,
 }
-
-impl Copy for DeltaDecoder<'_> {}

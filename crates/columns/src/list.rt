@@ -1,5 +1,7 @@
 // Lists in memory as lists to be written.
-ghost use Rattle.std.specs.Prelude.{◌^◌, ◌<◌, length};
+ghost use Rattle.std.specs.Prelude.{◌≡◌, ◌^◌, ◌<◌, length, ⊤};
+
+use std::alloc::AllocError;
 
 // as entries of a run column
 pub mod items;
@@ -8,6 +10,16 @@ pub mod items;
 pub struct Listed<'t, T> {
     items: &'t [Option<T>],
     ghost short: { length items.now < 2 ^ 63 },
+}
+
+impl<T: Copy> Clone for Listed<'_, T> {
+    ghost is_clone = { λ x y. y ≡ x };
+
+    ghost is_infallible = { λ _. ⊤ };
+
+    fn clone(&self) -> Result<Self, AllocError> {
+        Ok(*self)
+    }
 }
 
 impl<T: Copy> Copy for Listed<'_, T> {}

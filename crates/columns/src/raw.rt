@@ -1,5 +1,7 @@
 // Raw columns: plain bytes, taken by count.
-ghost use Rattle.std.specs.Prelude.{◌≤◌, length};
+ghost use Rattle.std.specs.Prelude.{◌≡◌, ◌≤◌, length, ⊤};
+
+use std::alloc::AllocError;
 
 // reading
 pub mod decoder;
@@ -9,6 +11,16 @@ pub struct RawDecoder<'a> {
     bytes: &'a [u8],
     offset: usize,
     ghost inside: { offset ≤ length bytes.now },
+}
+
+impl Clone for RawDecoder<'_> {
+    ghost is_clone = { λ x y. y ≡ x };
+
+    ghost is_infallible = { λ _. ⊤ };
+
+    fn clone(&self) -> Result<Self, AllocError> {
+        Ok(*self)
+    }
 }
 
 impl Copy for RawDecoder<'_> {}

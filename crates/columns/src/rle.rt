@@ -2,9 +2,10 @@
 //
 // A run of n equal elements is the signed number n and one code. A literal run of n elements is -n and
 // n codes. A null run is 0 and the unsigned length. Nulls alone take no bytes.
-ghost use Rattle.std.specs.Prelude.{◌≤◌, length};
+ghost use Rattle.std.specs.Prelude.{◌≡◌, ◌≤◌, length, ⊤};
 
 use crate::rle::run::Run;
+use std::alloc::AllocError;
 
 // reading
 pub mod decoder;
@@ -32,6 +33,22 @@ pub struct RleDecoder<'a, E> {
     run: Run,
     last: E,
     ghost inside: { offset ≤ length bytes.now },
+}
+
+impl<E: Copy> Clone for RleDecoder<'_, E> {
+    ghost is_clone = { λ x y. y ≡ x };
+
+    ghost is_infallible = { λ _. ⊤ };
+
+    fn clone(&self) -> Result<Self, AllocError> {
+        Ok(RleDecoder {
+            bytes: self.bytes,
+            offset: self.offset,
+            count: self.count,
+            run: self.run,
+            last: self.last,
+        })
+    }
 }
 
 impl<E: Copy> Copy for RleDecoder<'_, E> {}

@@ -33,7 +33,7 @@ impl<'a, N: Numbers> Source<'a, Signed> for Differences<N> {
 
 // Writes numbers as a delta column, to every output.
 pub fn write_deltas<N: Numbers, O: Output>(numbers: N, out: &mut O) -> Result<(), SinkRefused>
-    ensures wrote { Fed takes step (state out.old) (delta_column (N.Numbers.numbers numbers)) (is_ok result) (state out.new) }
+    ensures wrote { Fed O.takes O.step (O.state out.old) (delta_column (N.Numbers.numbers numbers)) (is_ok result) (O.state out.new) }
     ensures back { OnOk result (DeltaBack (N.Numbers.numbers numbers)) }
 {
     write_runs(Differences { numbers, last: 0 }, out)
@@ -42,8 +42,8 @@ pub fn write_deltas<N: Numbers, O: Output>(numbers: N, out: &mut O) -> Result<()
 // The same at a sink. Where nothing was refused and the differences fit 64 bits, what the sink holds
 // beyond what it held is read back as the numbers.
 pub fn put_deltas<N: Numbers, S: Sink>(numbers: N, sink: &mut S) -> Result<(), SinkRefused>
-    ensures told { Told rule (holding (held sink.old) (free sink.old) (kept sink.old)) (delta_column (N.Numbers.numbers numbers)) (is_ok result) (holding (held sink.new) (free sink.new) (kept sink.new)) }
-    ensures back { OnOk result (DeltaAt (N.Numbers.numbers numbers) (held sink.new) (length (held sink.old))) }
+    ensures told { Told S.rule (holding (S.held sink.old) (S.free sink.old) (S.kept sink.old)) (delta_column (N.Numbers.numbers numbers)) (is_ok result) (holding (S.held sink.new) (S.free sink.new) (S.kept sink.new)) }
+    ensures back { OnOk result (DeltaAt (N.Numbers.numbers numbers) (S.held sink.new) (length (S.held sink.old))) }
 {
     write_deltas(numbers, sink)
 }

@@ -14,7 +14,7 @@ use codec::element::Decodable;
 impl<'a, E: Decodable<'a>> RleDecoder<'a, E> {
     // A reader at its end.
     pub fn new() -> RleDecoder<'a, E>
-        ensures { remains reads means result ≡ [] }
+        ensures { remains E.reads E.means result ≡ [] }
     {
         RleDecoder {
             bytes: &[],
@@ -28,7 +28,7 @@ impl<'a, E: Decodable<'a>> RleDecoder<'a, E> {
     // Goes to the start of a column. Where its range ends beyond the data, all stays as it is.
     pub fn open(&mut self, data: &'a [u8], range: Range) -> Result<(), RangeRefused>
         ensures answer { result ≡ opening (length «data».now) range.end }
-        ensures after { remains reads means self.new ≡ (if nat_le range.end (length «data».now) then entries reads (take range.end «data».now) range.start else remains reads means self.old) }
+        ensures after { remains E.reads E.means self.new ≡ (if nat_le range.end (length «data».now) then entries E.reads (take range.end «data».now) range.start else remains E.reads E.means self.old) }
         ensures kept { is_err result ≡ true → self.new ≡ self.old }
     {
         if range.end() > data.len() {
@@ -46,20 +46,20 @@ impl<'a, E: Decodable<'a>> RleDecoder<'a, E> {
 
     // Whether no bytes and no run are left.
     pub fn done(&self) -> bool
-        ensures { result ≡ none (remains reads means self.now) }
+        ensures { result ≡ none (remains E.reads E.means self.now) }
     {
         self.count == 0 && self.offset >= self.bytes.len()
     }
 
     // Goes to the end.
     pub fn close(&mut self)
-        ensures { remains reads means self.new ≡ [] }
+        ensures { remains E.reads E.means self.new ≡ [] }
     {
         self.spend();
     }
 
     fn spend(&mut self)
-        ensures end { track means self.new ≡ spent reads (bound self.old) }
+        ensures end { track E.means self.new ≡ spent E.reads (bound self.old) }
         ensures same { bound self.new ≡ bound self.old }
     {
         self.offset = self.bytes.len();
@@ -69,8 +69,8 @@ impl<'a, E: Decodable<'a>> RleDecoder<'a, E> {
 
     // Reads headers up to a run that is not empty. False at the end.
     fn settle(&mut self) -> Result<bool, ColumnFault>
-        ensures answer { result ≡ report (settled reads (bound self.old) (track means self.old)) }
-        ensures same { settled reads (bound self.old) (track means self.new) ≡ settled reads (bound self.old) (track means self.old) }
+        ensures answer { result ≡ report (settled E.reads (bound self.old) (track E.means self.old)) }
+        ensures same { settled E.reads (bound self.old) (track E.means self.new) ≡ settled E.reads (bound self.old) (track E.means self.old) }
         ensures some { result ≡ Ok true → 0 < self.new.count }
         ensures kept { bound self.new ≡ bound self.old }
     {
@@ -90,9 +90,9 @@ impl<'a, E: Decodable<'a>> RleDecoder<'a, E> {
     // One of the run at hand.
     fn take(&mut self, place: &mut E) -> Result<Next, ColumnFault>
         requires { 0 < self.old.count }
-        ensures answer { result ≡ said (given reads (bound self.old) (track means self.old)).answer }
-        ensures place { means place.new ≡ placed (given reads (bound self.old) (track means self.old)).answer (means place.old) }
-        ensures after { OnOk result (track means self.new ≡ (given reads (bound self.old) (track means self.old)).after) }
+        ensures answer { result ≡ said (given E.reads (bound self.old) (track E.means self.old)).answer }
+        ensures place { E.means place.new ≡ placed (given E.reads (bound self.old) (track E.means self.old)).answer (E.means place.old) }
+        ensures after { OnOk result (track E.means self.new ≡ (given E.reads (bound self.old) (track E.means self.old)).after) }
         ensures kept { bound self.new ≡ bound self.old }
     {
         self.count -= 1;
@@ -111,9 +111,9 @@ impl<'a, E: Decodable<'a>> RleDecoder<'a, E> {
     }
 
     fn try_next(&mut self, place: &mut E) -> Result<Next, ColumnFault>
-        ensures answer { result ≡ said (step reads (bound self.old) (track means self.old)).answer }
-        ensures place { means place.new ≡ placed (step reads (bound self.old) (track means self.old)).answer (means place.old) }
-        ensures after { OnOk result (track means self.new ≡ (step reads (bound self.old) (track means self.old)).after) }
+        ensures answer { result ≡ said (step E.reads (bound self.old) (track E.means self.old)).answer }
+        ensures place { E.means place.new ≡ placed (step E.reads (bound self.old) (track E.means self.old)).answer (E.means place.old) }
+        ensures after { OnOk result (track E.means self.new ≡ (step E.reads (bound self.old) (track E.means self.old)).after) }
         ensures kept { bound self.new ≡ bound self.old }
     {
         if !self.settle()? {
@@ -126,9 +126,9 @@ impl<'a, E: Decodable<'a>> RleDecoder<'a, E> {
     // The next entry: an element goes into the place, which else is as it was. After a fault, and
     // after the end, it is the end ever after.
     pub fn next(&mut self, place: &mut E) -> Result<Next, ColumnFault>
-        ensures answer { result ≡ first (remains reads means self.old) }
-        ensures place { means place.new ≡ first_placed (remains reads means self.old) (means place.old) }
-        ensures after { remains reads means self.new ≡ others (remains reads means self.old) }
+        ensures answer { result ≡ first (remains E.reads E.means self.old) }
+        ensures place { E.means place.new ≡ first_placed (remains E.reads E.means self.old) (E.means place.old) }
+        ensures after { remains E.reads E.means self.new ≡ others (remains E.reads E.means self.old) }
     {
         match self.try_next(place) {
             Ok(next) => Ok(next),

@@ -18,8 +18,8 @@ fn append<'a, E: Encodable<'a>, C: Source<'a, E>, O: Output>(
     at: C,
     arrival: Option<E>,
 ) -> Result<RleState<E, C>, SinkRefused>
-    requires { Turn E.Decodable.code E.Decodable.means list at was arrival }
-    ensures { MatchResult result (λ s. Sound E.Decodable.code E.Decodable.means list (drop 1 (list at)) s × (fed takes step (state out.new) (to_come E.Decodable.code E.Decodable.means list s (drop 1 (list at))) ≡ fed takes step (state out.old) (to_come E.Decodable.code E.Decodable.means list was (list at)))) (λ _. fed takes step (state out.old) (to_come E.Decodable.code E.Decodable.means list was (list at)) ≡ (false, state out.new)) }
+    requires { Turn E.Decodable.code E.Decodable.means C.list at was arrival }
+    ensures { MatchResult result (λ s. Sound E.Decodable.code E.Decodable.means C.list (drop 1 (C.list at)) s × (fed O.takes O.step (O.state out.new) (to_come E.Decodable.code E.Decodable.means C.list s (drop 1 (C.list at))) ≡ fed O.takes O.step (O.state out.old) (to_come E.Decodable.code E.Decodable.means C.list was (C.list at)))) (λ _. fed O.takes O.step (O.state out.old) (to_come E.Decodable.code E.Decodable.means C.list was (C.list at)) ≡ (false, O.state out.new)) }
 {
     match (was, arrival) {
         (RleState::Empty, None) => Ok(RleState::InitialNullRun(1)),
@@ -85,8 +85,8 @@ fn finish<'a, E: Encodable<'a>, C: Source<'a, E>, O: Output>(
     out: &mut O,
     was: RleState<E, C>,
 ) -> Result<(), SinkRefused>
-    requires { Sound E.Decodable.code E.Decodable.means list [] was }
-    ensures { Fed takes step (state out.old) (to_come E.Decodable.code E.Decodable.means list was []) (is_ok result) (state out.new) }
+    requires { Sound E.Decodable.code E.Decodable.means C.list [] was }
+    ensures { Fed O.takes O.step (O.state out.old) (to_come E.Decodable.code E.Decodable.means C.list was []) (is_ok result) (O.state out.new) }
 {
     match was {
         RleState::Empty => Ok(()),
@@ -104,8 +104,8 @@ pub fn write_runs<'a, E: Encodable<'a>, C: Source<'a, E>, O: Output>(
     mut source: C,
     out: &mut O,
 ) -> Result<(), SinkRefused>
-    ensures wrote { Fed takes step (state out.old) (written (list source)) (is_ok result) (state out.new) }
-    ensures back { OnOk result (ReadBack E.Decodable.Element E.Decodable.code E.Decodable.reads (list source)) }
+    ensures wrote { Fed O.takes O.step (O.state out.old) (written (C.list source)) (is_ok result) (O.state out.new) }
+    ensures back { OnOk result (ReadBack E.Decodable.Element E.Decodable.code E.Decodable.reads (C.list source)) }
 {
     let mut held = RleState::Empty;
     'turns: loop {

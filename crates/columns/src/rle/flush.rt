@@ -12,20 +12,20 @@ use codec::encoding::{Output, SinkRefused};
 // A length as a header, and one with a minus.
 fn write_plus<O: Output>(out: &mut O, n: u64) -> Result<(), SinkRefused>
     requires { n < 2 ^ 63 }
-    ensures { Fed takes step (state out.old) (sleb (pos n)) (is_ok result) (state out.new) }
+    ensures { Fed O.takes O.step (O.state out.old) (sleb (pos n)) (is_ok result) (O.state out.new) }
 {
     write_sleb(out, n as i64)
 }
 
 fn write_minus<O: Output>(out: &mut O, n: u64) -> Result<(), SinkRefused>
     requires { (0 < n) × (n < 2 ^ 63) }
-    ensures { Fed takes step (state out.old) (sleb (negsuc (n - 1))) (is_ok result) (state out.new) }
+    ensures { Fed O.takes O.step (O.state out.old) (sleb (negsuc (n - 1))) (is_ok result) (O.state out.new) }
 {
     write_sleb(out, -(n as i64))
 }
 
 pub(crate) fn flush_null_run<O: Output>(out: &mut O, len: u64) -> Result<(), SinkRefused>
-    ensures { Fed takes step (state out.old) (sleb (pos 0) ++ uleb len) (is_ok result) (state out.new) }
+    ensures { Fed O.takes O.step (O.state out.old) (sleb (pos 0) ++ uleb len) (is_ok result) (O.state out.new) }
 {
     write_plus(out, 0)?;
     write_uleb(out, len)
@@ -37,7 +37,7 @@ pub(crate) fn flush_run<'a, E: Encodable<'a>, O: Output>(
     len: u64,
 ) -> Result<(), SinkRefused>
     requires { len < 2 ^ 63 }
-    ensures { Fed takes step (state out.old) (sleb (pos len) ++ E.Decodable.code (E.Decodable.means value.now)) (is_ok result) (state out.new) }
+    ensures { Fed O.takes O.step (O.state out.old) (sleb (pos len) ++ E.Decodable.code (E.Decodable.means value.now)) (is_ok result) (O.state out.new) }
 {
     write_plus(out, len)?;
     value.encode(out)
@@ -49,7 +49,7 @@ fn write_each<'a, E: Encodable<'a>, C: Source<'a, E>, O: Output>(
     out: &mut O,
     count: u64,
 ) -> Result<(), SinkRefused>
-    ensures { Fed takes step (state out.old) (spelled (take count (list source))) (is_ok result) (state out.new) }
+    ensures { Fed O.takes O.step (O.state out.old) (spelled (take count (C.list source))) (is_ok result) (O.state out.new) }
 {
     let mut left = count;
     while left > 0 {
@@ -70,7 +70,7 @@ pub(crate) fn flush_lit_run<'a, E: Encodable<'a>, C: Source<'a, E>, O: Output>(
     count: u64,
 ) -> Result<(), SinkRefused>
     requires { (0 < count) × (count < 2 ^ 63) }
-    ensures { Fed takes step (state out.old) (sleb (negsuc (count - 1)) ++ spelled (take count (list from))) (is_ok result) (state out.new) }
+    ensures { Fed O.takes O.step (O.state out.old) (sleb (negsuc (count - 1)) ++ spelled (take count (C.list from))) (is_ok result) (O.state out.new) }
 {
     write_minus(out, count)?;
     write_each(from, out, count)

@@ -56,8 +56,8 @@ pub(crate) fn read_header<'a, E: Decodable<'a>>(
     bytes: &'a [u8],
     last: &mut E,
 ) -> Result<Head, ColumnFault>
-    ensures answer { result ≡ head_of (header reads bytes.now) }
-    ensures place { means last.new ≡ last_of (header reads bytes.now) (means last.old) }
+    ensures answer { result ≡ head_of (header E.reads bytes.now) }
+    ensures place { E.means last.new ≡ last_of (header E.reads bytes.now) (E.means last.old) }
     ensures within { IfOk result (λ h. (0 < h.used) × (h.used ≤ length bytes.now)) }
 {
     let (shape, k) = read_shape(bytes)?;

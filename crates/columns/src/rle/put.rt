@@ -18,9 +18,9 @@ pub fn put_runs<'a, E: Encodable<'a>, C: Source<'a, E>, S: Sink>(
     source: C,
     sink: &mut S,
 ) -> Result<(), SinkRefused>
-    ensures told { Told rule (holding (held sink.old) (free sink.old) (kept sink.old)) (written (list source)) (is_ok result) (holding (held sink.new) (free sink.new) (kept sink.new)) }
-    ensures cut { TheCut (list source) }
-    ensures back { OnOk result (ColumnAt E.Decodable.Element E.Decodable.code E.Decodable.reads (list source) (held sink.new) (length (held sink.old))) }
+    ensures told { Told S.rule (holding (S.held sink.old) (S.free sink.old) (S.kept sink.old)) (written (C.list source)) (is_ok result) (holding (S.held sink.new) (S.free sink.new) (S.kept sink.new)) }
+    ensures cut { TheCut (C.list source) }
+    ensures back { OnOk result (ColumnAt E.Decodable.Element E.Decodable.code E.Decodable.reads (C.list source) (S.held sink.new) (length (S.held sink.old))) }
 {
     write_runs(source, sink)
 }
@@ -28,7 +28,7 @@ pub fn put_runs<'a, E: Encodable<'a>, C: Source<'a, E>, S: Sink>(
 // How many bytes the column takes: at most two for a null, and one more than its code for an element.
 // Refused if no count can say it.
 pub fn runs_len<'a, E: Encodable<'a>, C: Source<'a, E>>(source: C) -> Result<usize, SinkRefused>
-    ensures { MatchResult result (λ n. (n ≡ length (written (list source))) × (n ≤ most (list source))) (λ _. 2 ^ 64 ≤ length (written (list source))) }
+    ensures { MatchResult result (λ n. (n ≡ length (written (C.list source))) × (n ≤ most (C.list source))) (λ _. 2 ^ 64 ≤ length (written (C.list source))) }
 {
     let mut counter = Counter::new();
     write_runs(source, &mut counter)?;

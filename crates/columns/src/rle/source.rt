@@ -28,7 +28,7 @@ pub trait Source<'a, E: Encodable<'a>>: Copy {
 
 // The next entry, a null or an element. Nothing at the end.
 pub(crate) fn advance<'a, E: Encodable<'a>, C: Source<'a, E>>(source: &mut C) -> Option<Option<E>>
-    ensures { list source.old ≡ came E.Decodable.code E.Decodable.means result (list source.new) }
+    ensures { C.list source.old ≡ came E.Decodable.code E.Decodable.means result (C.list source.new) }
 {
     let mut place = E::blank();
     match source.next(&mut place) {

@@ -1,11 +1,11 @@
-use Rattle.std.proofs.Common.{◌≡◌, ℕ, List, ℤ, ◌+ℤ◌, Some, Ok, Err, sym, ap, ◌∙◌, w64, SFits, to_z, of_z, rules}
+use Rattle.std.proofs.Common.{◌≡◌, List, ℤ, ◌+ℤ◌, Some, Ok, Err, sym, ap, ◌∙◌, w64, SFits, to_z, of_z, rules}
 use Rattle.std.proofs.lemmas.Result.{err_from_is_err_and}
 use Rattle.std.proofs.lemmas.Int.{to_z-of_z}
 use Rattle.std.specs.Int.{saturate_to_bits}
 use Rattle.codec.specs.Elements.{reads_signed}
 use Rattle.columns.specs.declared.rle.run.Next.{Next}
 use Rattle.columns.specs.declared.delta.DeltaDecoder.{DeltaDecoder}
-use Rattle.columns.specs.Column.{Entry, remains, others}
+use Rattle.columns.specs.Column.{Entry, remains}
 use Rattle.columns.specs.Deltas.{summed}
 use Rattle.columns.proofs.Deltas.{at_fault, at_end, at_null, at_item}
 use Rattle.columns.proofs.delta.DeltaDecoder.next.Goals as goal
@@ -18,7 +18,7 @@ pub returns-in_err-next : goal.returns-in_err-next
 returns-in_err-next c =
     let last = c.args.self.now.absolute_val in
     let e = c.in_err-next.ensures in
-    let p = err_from_is_err_and c.from-residual.result c.from-residual.ensures.1 in
+    let p = err_from_is_err_and c.from_residual.result c.from_residual.ensures.1 in
     let r = at_fault last (left c.args.self.now) c.in_err-next.field-0.0 e.answer in
     record { answer = p.1 ∙ ap Err p.2 ∙ r.0; after = ap (summed last) e.after ∙ r.1 }
 

@@ -1,4 +1,4 @@
-use Rattle.std.proofs.Common.{◌≡◌, ℕ, List, ap, ◌∙◌}
+use Rattle.std.proofs.Common.{ℕ, List, ap, ◌∙◌}
 use Rattle.columns.specs.Steps.{track, bound}
 use Rattle.columns.specs.Column.{rest}
 use Rattle.columns.proofs.Columns.{spent_none}

@@ -1,4 +1,4 @@
-use Rattle.std.proofs.Common.{◌≡◌, ℕ, ◌<◌, ◌≤◌, List, length, drop, Ok, Err, sym, refl, ap, ◌∙◌, arith, length-drop}
+use Rattle.std.proofs.Common.{◌≡◌, ℕ, List, length, drop, Err, sym, ap, ◌∙◌, arith, length-drop}
 use Rattle.std.proofs.lemmas.Result.{err_from_is_err_and}
 use Rattle.columns.specs.Runs.{header, kind_of}
 use Rattle.columns.specs.Steps.{report, bound}
@@ -19,13 +19,13 @@ returns-in_err-head g c =
     let k = g.E.Decodable in
     let s = c.loop-self.self in
     let i = c.loop-self.invariant in
-    let p = err_from_is_err_and c.from-residual.result c.from-residual.ensures.1 in
+    let p = err_from_is_err_and c.from_residual.result c.from_residual.ensures.1 in
     let e = ap (λ (d : List ℕ). header k.reads (drop s.offset d)) (sym i.1) ∙ ap (header k.reads) (sym c.tail.ensures) ∙ head_err _ _ c.in_err-head.ensures.answer in
     let f = λ (m : k.Means). at_fault k.reads k.laws (bound c.args.self.now) s.offset (record { count = s.count; run = kind_of s.run m }) _ c.loop-self-test.true (omega (arith, ap length i.1)) e in
     record { answer = p.1 ∙ ap Err p.2 ∙ ap report (sym (f (k.means s.last)) ∙ i.0); same = f (k.means c.read_header.new.last) ∙ sym (f (k.means s.last)) ∙ i.0; some = λ q. absurd (not_both _ q p.1); kept = i.1 }
 
 pub invariant_of-self-in-loop-self : goal.invariant_of-self-in-loop-self
-invariant_of-self-in-loop-self g c = (omega (arith, c.in_ok-head.ensures.within, ap length c.tail.ensures, length-drop c.loop-self.self.offset c.loop-self.self.bytes.now), tt)
+invariant_of-self-in-loop-self g c = record { inside = omega (arith, c.in_ok-head.ensures.within, ap length c.tail.ensures, length-drop c.loop-self.self.offset c.loop-self.self.bytes.now) }
 
 pub loop-self-preserved : goal.loop-self-preserved
 loop-self-preserved g c =

@@ -19,4 +19,4 @@ pub returns-in-LiteralRun : goal.returns-in-LiteralRun
 returns-in-LiteralRun g c = let k = g.E.Decodable in fed_same (sym (end_literal k.code k.means g.C.Source.list g.C.Source.few c.args.was c.requires c.in-LiteralRun.from c.in-LiteralRun.count c.in-LiteralRun.last c.in-LiteralRun.is)) c.flush_lit_run-in-LiteralRun.ensures
 
 pub flush_lit_run-requires-in-LiteralRun : goal.flush_lit_run-requires-in-LiteralRun
-flush_lit_run-requires-in-LiteralRun g c = let k = g.E.Decodable in let z = end_size k.code k.means g.C.Source.list g.C.Source.few c.args.was c.requires c.in-LiteralRun.from c.in-LiteralRun.count c.in-LiteralRun.last c.in-LiteralRun.is in ((refl, tt), (z.0, z.1))
+flush_lit_run-requires-in-LiteralRun g c = let k = g.E.Decodable in let z = end_size k.code k.means g.C.Source.list g.C.Source.few c.args.was c.requires c.in-LiteralRun.from c.in-LiteralRun.count c.in-LiteralRun.last c.in-LiteralRun.is in λ _. ((refl, tt), (z.0, z.1))

@@ -1,14 +1,14 @@
-use Rattle.std.proofs.Common.{◌≡◌, ℕ, List, [], drop, Some, None, Option, sym, refl, ap, ◌∙◌, subst, arith}
+use Rattle.std.proofs.Common.{sym, ap, ◌∙◌, subst}
 use Rattle.codec.specs.Feed.{fed}
-use Rattle.columns.specs.Machine.{Sound, to_come}
-use Rattle.columns.proofs.Back.{AllOf, all_came}
+use Rattle.columns.specs.Machine.{to_come}
+use Rattle.columns.proofs.Back.{AllOf}
 use Rattle.columns.proofs.Same.{returned}
 use Rattle.columns.proofs.Moves.{made_when}
 use Rattle.columns.proofs.rle.encoder.write_runs.Goals as goal
 
 pub returns-in_default : goal.returns-in_default
 returns-in_default g c =
-    let o = g.row.O-Output in
+    let o = g.O.Output in
     let e = g.C.Source in
     let k = g.E.Decodable in
     let end = c.in_default.ensures in

@@ -8,7 +8,7 @@ use Rattle.columns.proofs.rle.encoder.write_runs.Given as goal
 -- the state is sound, what is left to write gives the whole answer, and so far each code is that of an element
 abbrev pub invariant-turns : goal.invariant-turns
 invariant-turns g l =
-    let o = g.row.O-Output in
+    let o = g.O.Output in
     let e = g.C.Source in
     let k = g.E.Decodable in
     Sound k.code k.means e.list (e.list l.source) l.held

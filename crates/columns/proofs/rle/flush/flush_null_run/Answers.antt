@@ -2,7 +2,7 @@ use Rattle.codec.proofs.Feeds.{fed_then, fed_exit}
 use Rattle.columns.proofs.rle.flush.flush_null_run.Goals as goal
 
 pub returns-in_err-write_plus : goal.returns-in_err-write_plus
-returns-in_err-write_plus g c = fed_exit _ c.from-residual.result c.from-residual.ensures.0 c.in_err-write_plus.ensures
+returns-in_err-write_plus g c = fed_exit _ c.from_residual.result c.from_residual.ensures.0 c.in_err-write_plus.ensures
 
 pub returns : goal.returns
 returns g c = fed_then c.in_ok-write_plus.ensures c.write_uleb.ensures.wrote

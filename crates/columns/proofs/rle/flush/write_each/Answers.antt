@@ -1,4 +1,4 @@
-use Rattle.std.proofs.Common.{◌≡◌, ◌-◌, ◌∷◌, ◌++◌, take, Some, None, sym, refl, ap, ◌∙◌}
+use Rattle.std.proofs.Common.{◌-◌, take, Some, None, sym, ap, ◌∙◌}
 use Rattle.codec.specs.Feed.{fed}
 use Rattle.codec.proofs.Feeds.{fed_exit}
 use Rattle.columns.specs.Spelled.{spelled}
@@ -10,23 +10,23 @@ use Rattle.columns.proofs.rle.flush.write_each.Goals.{in-Some-entry+in_ok-encode
 
 pub returns-in_default : goal.returns-in_default
 returns-in_default g c =
-    let o = g.row.O-Output in
+    let o = g.O.Output in
     record { is = sym c.loop-left.invariant ∙ ap (fed o.takes o.step (o.state c.loop-left.out)) (none_step _ c.loop-left.left c.in_default.ensures) }
 
 pub returns-in_err-encode : goal.returns-in_err-encode
 returns-in_err-encode g c =
-    let o = g.row.O-Output in
+    let o = g.O.Output in
     let e = g.C.Source in
     let k = g.E.Decodable in
     let after = e.list c.advance.new.source in
     let n = c.loop-left.left in
     let rest = spelled (take (n - 1) after) in
     let q = each_step _ after (Some (k.code (k.means c.in-Some-entry.element))) n c.loop-left-test.true (c.in-Some.ensures ∙ ap (λ a. came k.code k.means (Some a) after) c.in-Some-entry.is) in
-    record { is = sym c.loop-left.invariant ∙ ap (fed o.takes o.step (o.state c.loop-left.out)) q ∙ (fed_exit rest c.from-residual.result c.from-residual.ensures.0 c.in_err-encode.ensures).is }
+    record { is = sym c.loop-left.invariant ∙ ap (fed o.takes o.step (o.state c.loop-left.out)) q ∙ (fed_exit rest c.from_residual.result c.from_residual.ensures.0 c.in_err-encode.ensures).is }
 
 pub loop-left-preserved : goal.loop-left-preserved
 loop-left-preserved g c =
-    let o = g.row.O-Output in
+    let o = g.O.Output in
     let e = g.C.Source in
     let k = g.E.Decodable in
     let after = e.list c.advance.new.source in

@@ -11,4 +11,4 @@ returns g c =
     (n, omega (arith, n, written_most (g.C.Source.list c.args.source)))
 
 pub returns-in_err-write_runs : goal.returns-in_err-write_runs
-returns-in_err-write_runs g c = at_err c.from-residual.result _ _ c.from-residual.ensures.0 (counter_full c.new-counter.ensures c.in_err-write_runs.ensures.wrote)
+returns-in_err-write_runs g c = at_err c.from_residual.result _ _ c.from_residual.ensures.0 (counter_full c.new-counter.ensures c.in_err-write_runs.ensures.wrote)
