@@ -1,5 +1,5 @@
 -- Lists that come from Rust, by the codes of their entries.
-use Rattle.std.specs.Prelude.{◌≡◌, ℕ, suc, ◌-◌, ◌^◌, ◌<◌, ◌≤◌, cond, ◌&&◌, List, [], ◌∷◌, length, take, drop, Some, None, Option, ◌==◌, nat_le}
+use Rattle.std.specs.Prelude.{ℕ, ◌-◌, ◌^◌, ◌<◌, ◌≤◌, cond, ◌&&◌, List, [], ◌∷◌, length, take, drop, Some, None, Option, ◌==◌, nat_le}
 use Rattle.std.proofs.Common.{arith}
 use Rattle.codec.specs.Elements.{text_code}
 use Rattle.codec.specs.Leb128.{uleb}

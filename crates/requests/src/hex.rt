@@ -29,7 +29,7 @@ fn pair(high: u8, low: u8) -> Option<u8> {
 // The bytes that the text stands for; none where it is no such text.
 pub(crate) fn decode(heap: Global, text: &[u8]) -> Result<Option<Vec<u8>>, AllocError> {
     let mut bytes = Vec::new(heap);
-    if text == b"-" {
+    if text == b"-".as_slice() {
         return Ok(Some(bytes));
     }
     if text.len() % 2 != 0 {
