@@ -1,4 +1,4 @@
-// The columns of a change: runs of elements and nulls, differences, flags and plain bytes.
+// The columns of a change: runs of elements and nulls, differences and plain bytes.
 
 #![tactic(auto)]
 
