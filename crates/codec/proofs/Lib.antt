@@ -6,4 +6,3 @@ pub mod Tables
 pub mod Chars
 pub mod Grammar
 pub mod Decodes
-pub mod Texts

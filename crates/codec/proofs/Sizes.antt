@@ -1,43 +1,47 @@
--- How many bytes a number of so many bits takes.
-use Rattle.std.proofs.Common.{◌≡◌, ℕ, zero, suc, ◌+◌, ◌*◌, ◌/◌, ◌^◌, ◌<◌, ◌≤◌, length, ℤ, refl, ⊎_elim, pow-suc, arith, pow_mono}
-use lib.Signed.{mag}
-use Rattle.std.proofs.lemmas.Bool.{cases_lt}
-use Rattle.codec.specs.Leb128.{uleb, sleb}
+-- How many bytes the groups of a number take.
+use Rattle.std.proofs.Common.{◌≡◌, ℕ, zero, suc, ◌+◌, ◌*◌, ◌/◌, ◌^◌, ◌<◌, ◌≤◌, Bool, ◌⊎◌, inl, inr, length, sym, subst, ap, ◌∙◌, arith, pow_mono}
+use Rattle.std.proofs.Math.Nat.{mul-lt-mul_of_pos_left, mul-le-mul_left}
+use Rattle.codec.specs.Leb128.{groups}
 use Rattle.codec.specs.Laws.Powers.{pow_seven}
-use Rattle.codec.specs.Laws.Groups.{framed_some}
-use Rattle.codec.specs.Laws.Numbers.{uleb_few, uleb_many, sleb_few, sleb_many, sleb_framed, unsigned_coding}
+use Rattle.codec.specs.Laws.Groups.{framed_some, framed_groups, groups_few, groups_many, room_more}
 
-pub uleb_some : (n : ℕ) → 1 ≤ length (uleb n)
-uleb_some n = framed_some (uleb n) (unsigned_coding.codes n).framed
+-- `b` are the bits n, with one more behind them where the last group leaves one for the sign
+module _ (top : ℕ) (some : 0 < top) (most : top ≤ 128) (negative : Bool) (n b : ℕ) (is : top * b ≡ 128 * n) where
+  -- no bits take a byte
+  pub groups_none : b ≡ 0 → length (groups top negative n) ≡ 1
+  groups_none e =
+      let z : top * b ≡ 0 = ap (λ (k : ℕ). top * k) e ∙ omega arith in
+      omega (arith, z, groups_few top some most negative 0 n (omega (arith, z, room_more top 0)), framed_some (groups top negative n) (framed_groups top some most negative n))
 
--- a code by the bytes that hold the number, and one fewer that do not
-uleb_size : (q n : ℕ) → 128 ^ q ≤ n → n < 128 ^ suc q → length (uleb n) ≡ suc q
-uleb_size zero n low high = omega (arith, uleb_few zero n (omega arith), uleb_some n)
-uleb_size (suc k) n low high = omega (arith, uleb_few (suc k) n (omega (arith, pow-suc 128 (suc k))), uleb_many k n (omega (arith, pow-suc 128 k)))
+  -- by the bytes that hold the bits, and one fewer that do not
+  groups_size : (q : ℕ) → 128 ^ q ≤ b → b < 128 ^ suc q → length (groups top negative n) ≡ suc q
+  groups_size q low high =
+      let above : top * b < top * 128 ^ suc q = mul-lt-mul_of_pos_left high some in
+      let few : length (groups top negative n) ≤ suc q = groups_few top some most negative q n (omega (arith, above, is, room_more top q)) in
+      omega (arith, few, least q low)
+    where
+      least : (q : ℕ) → 128 ^ q ≤ b → suc q ≤ length (groups top negative n)
+      least zero low = framed_some (groups top negative n) (framed_groups top some most negative n)
+      least (suc k) low =
+          let below : top * 128 ^ suc k ≤ top * b = mul-le-mul_left top low in
+          groups_many top some most negative k n (omega (arith, below, is, room_more top k))
 
--- by the place of the highest bit
-pub uleb_bits : (j n : ℕ) → 2 ^ j ≤ n → n < 2 ^ suc j → length (uleb n) ≡ j / 7 + 1
-uleb_bits j n low high =
-    let q = j / 7 in
-    let a : 7 * q ≤ j = omega arith in
-    let b : suc j ≤ 7 * suc q = omega arith in
-    let below : 2 ^ (7 * q) ≤ 2 ^ j = pow_mono a in
-    let above : 2 ^ suc j ≤ 2 ^ (7 * suc q) = pow_mono b in
-    omega (arith, uleb_size q n (omega (arith, pow_seven q)) (omega (arith, pow_seven (suc q))))
+  -- by the place of the highest bit
+  pub groups_bits : (j : ℕ) → 2 ^ j ≤ b → b < 2 ^ suc j → length (groups top negative n) ≡ j / 7 + 1
+  groups_bits j low high =
+      let q = j / 7 in
+      let a : 7 * q ≤ j = omega arith in
+      let c : suc j ≤ 7 * suc q = omega arith in
+      let below : 2 ^ (7 * q) ≤ 2 ^ j = pow_mono a in
+      let above : 2 ^ suc j ≤ 2 ^ (7 * suc q) = pow_mono c in
+      omega (arith, groups_size q (omega (arith, pow_seven q)) (omega (arith, pow_seven (suc q))))
 
--- a signed number is as long as an unsigned one of twice its magnitude
-pub sleb_size : (z : ℤ) → length (uleb (2 * mag z)) ≡ length (sleb z)
-sleb_size z = at (length (sleb z)) refl
-  where
-    least : (k : ℕ) → length (sleb z) ≡ suc k → suc k ≤ length (uleb (2 * mag z))
-    least zero e = uleb_some (2 * mag z)
-    least (suc k) e =
-        let beyond : 64 * 128 ^ k ≤ mag z = ⊎_elim (λ h. absurd (omega (arith, sleb_few k z h))) (λ h. h) (cases_lt (mag z) (64 * 128 ^ k)) in
-        uleb_many k (2 * mag z) (omega arith)
+-- the bits of a number, with one more where there is a sign
+module _ (top t m : ℕ) (same : t ≡ top) where
+  pub doubled : (top ≡ 64) ⊎ (top ≡ 128) → top * (m * (128 / t)) ≡ 128 * m
+  doubled (inl a) = subst (λ (k : ℕ). k * (m * (128 / t)) ≡ 128 * m) (sym a) (ap (λ (k : ℕ). 64 * (m * (128 / k))) (same ∙ a) ∙ omega arith)
+  doubled (inr a) = subst (λ (k : ℕ). k * (m * (128 / t)) ≡ 128 * m) (sym a) (ap (λ (k : ℕ). 128 * (m * (128 / k))) (same ∙ a) ∙ omega arith)
 
-    at : (l : ℕ) → length (sleb z) ≡ l → length (uleb (2 * mag z)) ≡ l
-    at zero e = absurd (omega (arith, framed_some (sleb z) (sleb_framed z)))
-    at (suc k) e =
-        let within : mag z < 64 * 128 ^ k = ⊎_elim (λ h. h) (λ h. absurd (omega (arith, sleb_many k z h))) (cases_lt (mag z) (64 * 128 ^ k)) in
-        let most : length (uleb (2 * mag z)) ≤ suc k = uleb_few k (2 * mag z) (omega arith) in
-        omega (arith, most, least k e)
+  pub doubled_fits : (top ≡ 64) ⊎ (top ≡ 128) → m < top * 2 ^ 57 → m * (128 / t) < 2 ^ 64
+  doubled_fits (inl a) h = omega (arith, ap (λ (k : ℕ). m * (128 / k)) (same ∙ a), a)
+  doubled_fits (inr a) h = omega (arith, ap (λ (k : ℕ). m * (128 / k)) (same ∙ a), a)

@@ -39,10 +39,10 @@ numbered (Ok p) = Ok p
 numbered (Err fault) = Err (Number fault)
 
 -- Numbers are coded as they are.
-unfoldable pub reads_unsigned : List ℕ → Reading ℕ
+abbrev pub reads_unsigned : List ℕ → Reading ℕ
 reads_unsigned bytes = numbered (read_unsigned bytes)
 
-unfoldable pub reads_signed : List ℕ → Reading ℤ
+abbrev pub reads_signed : List ℕ → Reading ℤ
 reads_signed bytes = numbered (read_signed bytes)
 
 abbrev pub UnsignedElement : ℕ → Type 0

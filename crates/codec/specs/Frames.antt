@@ -1,6 +1,6 @@
 -- What is known of a number's bytes once their end is found.
-use Rattle.std.specs.Prelude.{◌≡◌, ℕ, ◌+◌, ◌-◌, ◌*◌, ◌^◌, ◌<◌, Bool, cond, List, length, take, ℤ, pos, negsuc, Ok}
-use Rattle.codec.specs.Leb128.{unsigned, signed, Framed, frame_at}
+use Rattle.std.specs.Prelude.{◌≡◌, ℕ, suc, ◌+◌, ◌-◌, ◌*◌, ◌^◌, ◌<◌, ◌≤◌, Bool, true, false, cond, List, length, take, ℤ, pos, negsuc, Ok}
+use Rattle.codec.specs.Leb128.{unsigned, Framed, frame_at}
 
 -- what the groups make: `low` before the last, and that one behind `used` - 1 others
 abbrev pub worth : ℕ → ℕ → ℕ → ℕ
@@ -21,8 +21,13 @@ pub record Found (bytes : List ℕ) (low last used : ℕ) : Type 0 where
 abbrev pub number_of : Bool → ℕ → ℤ
 number_of negative n = cond negative (negsuc n) (pos n)
 
--- these are the groups of a signed number, inverted where it is negative; the highest bit of the last is clear
-pub record FoundSigned (bytes : List ℕ) (negative : Bool) (low last used : ℕ) : Type 0 where
-  pub ended : Ended bytes used
-  pub value : signed (take used bytes) ≡ number_of negative (worth low last used)
-  pub half : last < 64
+-- an unsigned one has no sign
+abbrev pub plain_number : Bool → ℕ → ℕ
+plain_number negative n = n
+
+-- The sign and the bits m of a number whose bytes, `used` of them, are worth n as they stand, where `top` is what the
+-- last group of a number with no minus is below: from there on, all bits are inverted.
+pub record Split (top n used : ℕ) (negative : Bool) (m : ℕ) : Type 0 where
+  pub plain : negative ≡ false → (m ≡ n) × (128 * n < top * 128 ^ used)
+  pub inverted : negative ≡ true → (n + suc m ≡ 128 ^ used) × (top * 128 ^ used ≤ 128 * n)
+  pub below : 128 * m < top * 128 ^ used

@@ -92,6 +92,11 @@ read_unsigned bytes = number_at unsigned fits_u64 uleb bytes
 unfoldable pub read_signed : List ℕ → Result (ℤ × ℕ) NumberFault
 read_signed bytes = number_at signed fits_i64 sleb bytes
 
+-- What a reader answers, by the number that its value means.
+abbrev pub read_as : {T N : Type 0} → (T → N) → Result (T × ℕ) NumberFault → Result (N × ℕ) NumberFault
+read_as means (Ok p) = Ok (means p.0, p.1)
+read_as means (Err fault) = Err fault
+
 -- A reader accepts exactly where the code of a number that fits stands at the front.
 pub record Exact {N : Type 0} (value : List ℕ → N) (fits : N → Bool) (bytes : List ℕ) (r : Result (N × ℕ) NumberFault) : Type 0 where
   pub only : (n : N) (k : ℕ) → r ≡ Ok (n, k) → (code : List ℕ) × (rest : List ℕ) × (bytes ≡ code ++ rest) × Code value n code × (fits n ≡ true) × (k ≡ length code)

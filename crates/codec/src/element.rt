@@ -5,7 +5,7 @@
 // whether two elements are the same.
 ghost use Rattle.std.specs.Prelude.{◌≡◌, ℕ, ◌≤◌, true, List, length, drop, is_ok, is_err, Decides, OnOk};
 ghost use Rattle.codec.specs.Feed.{Fed};
-ghost use Rattle.codec.specs.Sinks.{holding, Told};
+ghost use Rattle.codec.specs.Sinks.{Told};
 ghost use Rattle.codec.specs.Elements.{Reading, used, filled, Laws, StandsFor};
 
 use crate::element::fault::ElementFault;
@@ -58,7 +58,8 @@ pub trait Encodable<'a>: Decodable<'a> {
     fn encode<O: Output>(&self, out: &mut O) -> Result<(), SinkRefused>
         ensures { Fed O.takes O.step (O.state out.old) (Self.Decodable.code (Self.Decodable.means self.now)) (is_ok result) (O.state out.new) };
 
-    // Whether two elements are the same.
+    // Whether two elements are the same. A method, and not a law of `==`: tried, but in generic code
+    // a proof cannot cite a law of a trait that has a lifetime.
     fn same(&self, other: &Self) -> bool
         ensures { Decides result (Self.Decodable.means self.now ≡ Self.Decodable.means other.now) };
 }
@@ -69,8 +70,8 @@ pub fn put_element<'a, E: Encodable<'a>, S: Sink>(
     sink: &mut S,
     element: &E,
 ) -> Result<(), SinkRefused>
-    ensures told { Told S.rule (holding (S.held sink.old) (S.free sink.old) (S.kept sink.old)) (E.Decodable.code (E.Decodable.means element.now)) (is_ok result) (holding (S.held sink.new) (S.free sink.new) (S.kept sink.new)) }
-    ensures back { OnOk result (StandsFor E.Decodable.reads (E.Decodable.means element.now) (drop (length (S.held sink.old)) (S.held sink.new))) }
+    ensures told { Told S.rule (S.holds sink.old) (E.Decodable.code (E.Decodable.means element.now)) (is_ok result) (S.holds sink.new) }
+    ensures back { OnOk result (StandsFor E.Decodable.reads (E.Decodable.means element.now) (drop (length (S.holds sink.old).held) (S.holds sink.new).held)) }
 {
     element.encode(sink)
 }

@@ -2,9 +2,10 @@
 //
 // A sink holds bytes. A writer is generic over an output, which is any sink or a counter, so that
 // one text writes to every sink and also just counts.
-ghost use Rattle.std.specs.Prelude.{◌≡◌, ℕ, ◌+◌, Bool, List, [], ◌∷◌, length, is_ok};
+ghost use Rattle.std.specs.Prelude.{◌≡◌, ℕ, ◌+◌, Bool, List, [], ◌∷◌, length, is_ok, Some, codes};
+ghost use Rattle.std.specs.Fmt.{styled_text};
 ghost use Rattle.codec.specs.Feed.{Fed};
-ghost use Rattle.codec.specs.Sinks.{Holding, holding, says, more, Offered, Told};
+ghost use Rattle.codec.specs.Sinks.{Rule, Holding, says, more, Offered, Told};
 ghost use Rattle.std.proofs.lemmas.List.{length_push};
 
 // a sink over lent memory
@@ -16,9 +17,23 @@ pub mod counter;
 // numbers
 pub mod leb128;
 
+use std::fmt;
+
 // A byte was refused.
 #[derive(Clone, Copy, Debug, PartialEq, Eq)]
 pub struct SinkRefused;
+
+impl fmt::Display for SinkRefused {
+    ghost output = { λ _. Some (codes "a byte was refused") };
+
+    ghost styled_output = { λ _ s. Some (styled_text s (codes "a byte was refused")) };
+
+    fn fmt<W: fmt::Write>(&self, f: &mut fmt::Formatter<W>) -> fmt::Result {
+        f.pad("a byte was refused")
+    }
+}
+
+impl std::error::Error for SinkRefused {}
 
 // Where a writer writes: a state, whether a byte is taken in it, and the next state. Every sink is
 // one, and so is a counter.
@@ -48,38 +63,33 @@ pub trait Output {
 // A sink means the bytes that it holds and, for each next byte, a yes or no by a rule on what it
 // holds that no call changes.
 pub trait Sink {
-    // the bytes that it holds
-    ghost held: { Self → List ℕ };
-
-    // its memory that holds none of them yet, in order
-    ghost free: { Self → List ℕ };
-
     // what no call changes: the size of its memory and where that is, the bytes it expects
     ghost Kept: { Type 0 };
 
-    ghost kept: { Self → Kept };
+    // the bytes that it holds, its memory that holds none of them yet, and what no call changes
+    ghost holds: { Self → Holding Kept };
 
     // on what it holds, whether it takes a next byte
-    ghost rule: { Kept → List ℕ → ℕ → Bool };
+    ghost rule: { Kept → Rule };
 
     // Told a byte that it says yes to, it holds that byte last. Told any other, it refuses and is
     // unchanged.
     fn put(&mut self, byte: u8) -> Result<(), SinkRefused>
-        ensures { Offered rule (holding (held self.old) (free self.old) (kept self.old)) byte (is_ok result) (holding (held self.new) (free self.new) (kept self.new)) };
+        ensures { Offered rule (holds self.old) byte (is_ok result) (holds self.new) };
 
     // How many bytes it holds.
     fn count(&self) -> usize
-        ensures { result ≡ length (held self.now) };
+        ensures { result ≡ length (holds self.now).held };
 
     // The question alone: whether it would take the byte.
     fn accepts(&self, byte: u8) -> bool
-        ensures { result ≡ rule (kept self.now) (held self.now) byte };
+        ensures { result ≡ says rule (holds self.now) byte };
 }
 
 impl<S: Sink> Output for S {
     ghost State = { Holding S.Kept };
 
-    ghost state = { λ s. holding (S.held s) (S.free s) (S.kept s) };
+    ghost state = { S.holds };
 
     ghost takes = { says S.rule };
 
@@ -110,7 +120,7 @@ pub fn append<O: Output>(out: &mut O, bytes: &[u8]) -> Result<(), SinkRefused>
 
 // The same at a sink, by what it holds: all bytes, or the longest beginning that it took.
 pub fn put_bytes<S: Sink>(sink: &mut S, bytes: &[u8]) -> Result<(), SinkRefused>
-    ensures { Told S.rule (holding (S.held sink.old) (S.free sink.old) (S.kept sink.old)) bytes.now (is_ok result) (holding (S.held sink.new) (S.free sink.new) (S.kept sink.new)) }
+    ensures { Told S.rule (S.holds sink.old) bytes.now (is_ok result) (S.holds sink.new) }
 {
     append(sink, bytes)
 }

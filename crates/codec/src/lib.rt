@@ -7,6 +7,8 @@
 pub mod element;
 // where and how bytes and numbers are written
 pub mod encoding;
+// the integers that have a code
+pub mod integer;
 // how numbers and text are read
 pub mod parse;
 // the numbers and words of refusals

@@ -1,33 +1,51 @@
 // The number of each refusal, and its cause in words.
-ghost use Rattle.std.specs.Prelude.{◌≡◌};
+ghost use Rattle.std.specs.Prelude.{◌≡◌, ℕ, List};
 ghost use Rattle.codec.specs.Refusals.{sink_number, fault_number, cause_of, element_number, element_cause};
 
 use crate::element::fault::ElementFault;
 use crate::encoding::SinkRefused;
 use crate::parse::fault::NumberFault;
 
-impl SinkRefused {
-    pub fn number(self) -> u8
-        ensures { result ≡ sink_number self }
-    {
+// Why something is refused, by a number.
+pub trait Refusal: Copy {
+    ghost number_of: { Self → ℕ };
+
+    fn number(self) -> u8
+        ensures { result ≡ number_of self };
+}
+
+// A refusal that also has a cause in words.
+pub trait Fault: Refusal {
+    ghost words: { Self → List ℕ };
+
+    fn cause(self) -> &'static str
+        ensures { result.now ≡ words self };
+}
+
+impl Refusal for SinkRefused {
+    ghost number_of = { sink_number };
+
+    fn number(self) -> u8 {
         15
     }
 }
 
-impl NumberFault {
-    pub fn number(self) -> u8
-        ensures { result ≡ fault_number self }
-    {
+impl Refusal for NumberFault {
+    ghost number_of = { fault_number };
+
+    fn number(self) -> u8 {
         match self {
             NumberFault::CutShort => 17,
             NumberFault::TooLarge => 17,
             NumberFault::Overlong => 17,
         }
     }
+}
 
-    pub fn cause(self) -> &'static str
-        ensures { result.now ≡ cause_of self }
-    {
+impl Fault for NumberFault {
+    ghost words = { cause_of };
+
+    fn cause(self) -> &'static str {
         match self {
             NumberFault::CutShort => "cut short",
             NumberFault::TooLarge => "too large",
@@ -36,20 +54,22 @@ impl NumberFault {
     }
 }
 
-impl ElementFault {
-    pub fn number(self) -> u8
-        ensures { result ≡ element_number self }
-    {
+impl Refusal for ElementFault {
+    ghost number_of = { element_number };
+
+    fn number(self) -> u8 {
         match self {
             ElementFault::Number(fault) => fault.number(),
             ElementFault::PastEnd => 17,
             ElementFault::NotUtf8 => 17,
         }
     }
+}
 
-    pub fn cause(self) -> &'static str
-        ensures { result.now ≡ element_cause self }
-    {
+impl Fault for ElementFault {
+    ghost words = { element_cause };
+
+    fn cause(self) -> &'static str {
         match self {
             ElementFault::Number(fault) => fault.cause(),
             ElementFault::PastEnd => "past the end",

@@ -5,11 +5,11 @@ use Rattle.std.proofs.lemmas.List.{append_assoc, take_at, drop_at, length-take}
 use Rattle.std.proofs.lemmas.Bool.{le-leb, leb-true, lt-ltb, ltb-true, cond-true}
 use Rattle.codec.specs.declared.parse.fault.NumberFault.{NumberFault}
 use Rattle.codec.specs.declared.element.fault.ElementFault.TheVariants.{PastEnd, NotUtf8}
-use Rattle.codec.specs.Leb128.{fits_u64, uleb, sleb, number_at, read_unsigned, read_signed}
+use Rattle.codec.specs.Leb128.{fits_u64, uleb, sleb, number_at, read_unsigned}
 use Rattle.codec.specs.Utf8.{valid}
 use Rattle.codec.specs.Elements.{Reading, Laws, numbered, reads_unsigned, reads_signed, UnsignedElement, SignedElement, text_code, text_behind, reads_text, TextElement}
 use Rattle.codec.specs.Laws.Codes.{Coding, code_returns, read_fits}
-use Rattle.codec.specs.Laws.Numbers.{unsigned_coding, signed_coding, uleb_returns}
+use Rattle.codec.specs.Laws.Numbers.{unsigned_coding, signed_coding, unsigned_reads, signed_reads, uleb_returns}
 
 module _ {N : Type 0} where
   -- a number that was read, by either name of its fault
@@ -18,13 +18,13 @@ module _ {N : Type 0} where
   numbered_ok (Err fault) p e = let z : ◌≡◌ {A = ℕ} 0 1 = cc in absurd (omega arith)
 
   -- the laws of any coding of numbers
-  number_laws : {value : List ℕ → N} {fits : N → Bool} {code : N → List ℕ} (k : Coding value fits code) → Laws (λ n. fits n ≡ true) code (λ bytes. numbered (number_at value fits code bytes))
-  number_laws k =
+  pub number_laws : {value : List ℕ → N} {fits : N → Bool} {code : N → List ℕ} {reads : List ℕ → Result (N × ℕ) NumberFault} → Coding value fits code → ((bytes : List ℕ) → reads bytes ≡ number_at value fits code bytes) → Laws (λ n. fits n ≡ true) code (λ bytes. numbered (reads bytes))
+  number_laws k is =
       record {
         some = λ n f. (code_returns k n f).some;
-        back = λ n f rest. ap numbered ((code_returns k n f).back rest);
-        alone = λ bytes n used e. (read_fits k bytes n used (numbered_ok _ (n, used) e)).0;
-        within = λ bytes n used e. let r = read_fits k bytes n used (numbered_ok _ (n, used) e) in (r.1, r.2);
+        back = λ n f rest. ap numbered (is _ ∙ (code_returns k n f).back rest);
+        alone = λ bytes n used e. (read_fits k bytes n used (sym (is bytes) ∙ numbered_ok _ (n, used) e)).0;
+        within = λ bytes n used e. let r = read_fits k bytes n used (sym (is bytes) ∙ numbered_ok _ (n, used) e) in (r.1, r.2);
       }
 
 -- what is read as a number
@@ -33,12 +33,10 @@ unfolding read_unsigned
 unsigned_read = read_fits unsigned_coding
 
 pub unsigned_laws : Laws UnsignedElement uleb reads_unsigned
-unfolding reads_unsigned read_unsigned
-unsigned_laws = number_laws unsigned_coding
+unsigned_laws = number_laws unsigned_coding unsigned_reads
 
 pub signed_laws : Laws SignedElement sleb reads_signed
-unfolding reads_signed read_signed
-signed_laws = number_laws signed_coding
+signed_laws = number_laws signed_coding signed_reads
 
 -- a text and anything behind it
 text_back : (text : List ℕ) → TextElement text → (rest : List ℕ) → reads_text (text_code text ++ rest) ≡ Ok (text, length (text_code text))

@@ -3,7 +3,7 @@ use Rattle.std.specs.Prelude.{◌≡◌, ℕ, zero, suc, ◌+◌, ◌*◌, ◌^�
 use Rattle.std.proofs.Common.{sym, ap, ◌∙◌, pow-suc, arith, ⊎_elim}
 use Rattle.std.specs.Int.Signed.{mag}
 use Rattle.std.proofs.lemmas.Bool.{ltb-true, lt-ltb, le-ltb, cases_lt}
-use Rattle.codec.specs.Leb128.{unsigned, signed, Framed, groups, uleb, sleb, fits_u64, fits_i64, read_unsigned, read_signed, Returns}
+use Rattle.codec.specs.Leb128.{unsigned, signed, Framed, groups, uleb, sleb, fits_u64, fits_i64, read_unsigned, read_signed, number_at, Returns}
 use Rattle.codec.specs.Laws.Groups.{framed_groups, groups_few, groups_many, groups_value, inverted_value, framed_some}
 use Rattle.codec.specs.Laws.Frames.{unsigned_below}
 use Rattle.codec.specs.Laws.Signs.{signed_pos, signed_neg, signed_mag, signed_same}
@@ -108,3 +108,12 @@ uleb_returns n f = code_returns unsigned_coding n f
 pub sleb_returns : (z : ℤ) → fits_i64 z ≡ true → Returns signed read_signed z (sleb z)
 unfolding read_signed
 sleb_returns z f = code_returns signed_coding z f
+
+-- what reading gives, by its parts
+pub unsigned_reads : (bytes : List ℕ) → read_unsigned bytes ≡ number_at unsigned fits_u64 uleb bytes
+unfolding read_unsigned
+unsigned_reads bytes = refl
+
+pub signed_reads : (bytes : List ℕ) → read_signed bytes ≡ number_at signed fits_i64 sleb bytes
+unfolding read_signed
+signed_reads bytes = refl

@@ -1,8 +1,12 @@
 // Why the bytes of an element are refused.
-ghost use Rattle.std.specs.Prelude.{◌≡◌};
+ghost use Rattle.std.specs.Prelude.{◌≡◌, Some};
+ghost use Rattle.std.specs.Fmt.{styled_text};
+ghost use Rattle.codec.specs.Refusals.{element_cause};
 ghost use Rattle.codec.specs.declared.element.fault.ElementFault.TheVariants.{Number};
 
 use crate::parse::fault::NumberFault;
+use crate::refusal::Fault;
+use std::fmt;
 
 #[derive(Clone, Copy, Debug, PartialEq, Eq)]
 pub enum ElementFault {
@@ -22,3 +26,16 @@ impl From<NumberFault> for ElementFault {
         ElementFault::Number(fault)
     }
 }
+
+// A fault is shown as its cause.
+impl fmt::Display for ElementFault {
+    ghost output = { λ fault. Some (element_cause fault) };
+
+    ghost styled_output = { λ fault s. Some (styled_text s (element_cause fault)) };
+
+    fn fmt<W: fmt::Write>(&self, f: &mut fmt::Formatter<W>) -> fmt::Result {
+        f.pad(self.cause())
+    }
+}
+
+impl std::error::Error for ElementFault {}

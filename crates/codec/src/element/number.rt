@@ -1,101 +1,86 @@
 // Numbers as elements.
-ghost use Rattle.std.specs.Prelude.{◌≡◌, ℕ, ◌^◌, ◌<◌, true, ℤ, pos};
-ghost use Rattle.codec.specs.Leb128.{uleb, sleb, fits_u64, fits_i64};
-ghost use Rattle.codec.specs.Elements.{reads_unsigned, reads_signed, UnsignedElement, SignedElement};
-ghost use Rattle.codec.specs.Laws.Kinds.{unsigned_laws, signed_laws};
+ghost use Rattle.std.specs.Prelude.{◌≡◌, true, List, ⊤};
+ghost use Rattle.codec.specs.Elements.{numbered};
+ghost use Rattle.codec.specs.Laws.Kinds.{number_laws};
 
 use crate::element::fault::ElementFault;
 use crate::element::{Decodable, Encodable};
-use crate::encoding::leb128::{write_sleb, write_uleb};
+use crate::encoding::leb128::write_leb128;
 use crate::encoding::{Output, SinkRefused};
-use crate::parse::leb128::{leb128_i64, leb128_u64};
+use crate::integer::Integer;
+use crate::parse::leb128::read_leb128;
+use std::alloc::AllocError;
 
-// An unsigned number of 64 bits.
-#[derive(Clone, Copy)]
-pub struct Unsigned {
-    pub value: u64,
-    ghost fits: { fits_u64 value ≡ true },
+// A number of 64 bits.
+#[derive(Debug, PartialEq, Eq, PartialOrd, Ord)]
+pub struct Number<N: Integer> {
+    pub value: N,
+    ghost fits: { N.fits (N.means value) ≡ true },
 }
 
-// A signed number of 64 bits.
-#[derive(Clone, Copy)]
-pub struct Signed {
-    pub value: i64,
-    ghost fits: { fits_i64 value ≡ true },
+// A derive does not take a generic struct with a ghost field.
+impl<N: Integer> Clone for Number<N> {
+    ghost is_clone = { λ x y. y ≡ x };
+
+    ghost is_infallible = { λ _. ⊤ };
+
+    fn clone(&self) -> Result<Self, AllocError> {
+        Ok(*self)
+    }
 }
 
-impl<'a> Decodable<'a> for Unsigned {
-    ghost Means = { ℕ };
+impl<N: Integer> Copy for Number<N> {}
 
-    ghost means = { λ x. x.value };
+// without a sign
+pub type Unsigned = Number<u64>;
 
-    ghost code = { uleb };
+// with a sign
+pub type Signed = Number<i64>;
 
-    ghost reads = { reads_unsigned };
+impl<'a, N: Integer> Decodable<'a> for Number<N> {
+    ghost Means = { N.Means };
 
-    ghost Element = { UnsignedElement };
+    ghost means = { λ x. N.means x.value };
+
+    ghost code = { N.code };
+
+    ghost reads = { λ bytes. numbered (N.reads bytes) };
+
+    ghost Element = { λ n. N.fits n ≡ true };
 
     ghost holds = { λ x. x.fits };
 
-    ghost laws = { unsigned_laws };
+    ghost laws = { number_laws N.coding N.reading };
 
-    ghost first = { 0 };
+    ghost first = { N.means N.ZERO };
 
-    fn blank() -> Unsigned {
-        Unsigned { value: 0 }
+    fn blank() -> Number<N> {
+        Number { value: N::ZERO }
     }
 
     fn decode(&mut self, bytes: &'a [u8]) -> Result<usize, ElementFault> {
-        let (value, used) = leb128_u64(bytes)?;
-        *self = Unsigned { value };
+        let (value, used) = read_leb128::<N>(bytes)?;
+        *self = Number { value };
         Ok(used)
     }
 }
 
-impl<'a> Decodable<'a> for Signed {
-    ghost Means = { ℤ };
-
-    ghost means = { λ x. x.value };
-
-    ghost code = { sleb };
-
-    ghost reads = { reads_signed };
-
-    ghost Element = { SignedElement };
-
-    ghost holds = { λ x. x.fits };
-
-    ghost laws = { signed_laws };
-
-    ghost first = { pos 0 };
-
-    fn blank() -> Signed {
-        Signed { value: 0 }
+impl<'a, N: Integer> Encodable<'a> for Number<N> {
+    fn encode<O: Output>(&self, out: &mut O) -> Result<(), SinkRefused> {
+        write_leb128(out, self.value)
     }
 
-    fn decode(&mut self, bytes: &'a [u8]) -> Result<usize, ElementFault> {
-        let (value, used) = leb128_i64(bytes)?;
-        *self = Signed { value };
-        Ok(used)
+    fn same(&self, other: &Number<N>) -> bool {
+        self == other
     }
 }
 
-impl<'a> Encodable<'a> for Unsigned {
-    fn encode<O: Output>(&self, out: &mut O) -> Result<(), SinkRefused> {
-        write_uleb(out, self.value)
-    }
+impl<N: Integer> From<N> for Number<N> {
+    ghost from_gives = { λ n r. r.value ≡ n };
 
-    fn same(&self, other: &Unsigned) -> bool {
-        self.value == other.value
-    }
-}
-
-impl<'a> Encodable<'a> for Signed {
-    fn encode<O: Output>(&self, out: &mut O) -> Result<(), SinkRefused> {
-        write_sleb(out, self.value)
-    }
-
-    fn same(&self, other: &Signed) -> bool {
-        self.value == other.value
+    // That the number fits its type is what its bits say.
+    fn from(value: N) -> Number<N> {
+        let _bits = value.to_bits();
+        Number { value }
     }
 }

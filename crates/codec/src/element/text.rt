@@ -1,18 +1,19 @@
 // Text as elements: parts of the input, of which nothing is copied.
-ghost use Rattle.std.specs.Prelude.{◌≡◌, ℕ, ◌^◌, ◌<◌, true, List, [], length, is_ok, is_err, if◌then◌else◌};
+ghost use Rattle.std.specs.Prelude.{◌≡◌, ℕ, ◌^◌, ◌<◌, true, false, List, [], length, is_ok, is_err, if◌then◌else◌, MatchResult};
 ghost use Rattle.codec.specs.Utf8.{valid};
 ghost use Rattle.codec.specs.Elements.{reads_text, text_code, TextElement, checked};
 ghost use Rattle.codec.specs.Laws.Kinds.{text_laws};
+ghost use Rattle.codec.specs.declared.element.fault.ElementFault.TheVariants.{NotUtf8};
 
 use crate::element::fault::ElementFault;
 use crate::element::{Decodable, Encodable};
-use crate::encoding::leb128::write_uleb;
+use crate::encoding::leb128::write_leb128;
 use crate::encoding::{Output, SinkRefused, append};
-use crate::parse::leb128::leb128_u64;
+use crate::parse::leb128::read_leb128;
 use crate::parse::utf8::is_utf8;
 
 // A text: a part of bytes that live for 'a. It is made empty, and filled only by the UTF-8 check.
-#[derive(Clone, Copy)]
+#[derive(Clone, Copy, Debug, PartialEq, Eq, PartialOrd, Ord)]
 pub struct Text<'a> {
     part: &'a [u8],
     ghost sound: { valid part.now ≡ true },
@@ -33,15 +34,6 @@ impl<'a> Text<'a> {
         Ok(())
     }
 
-    // What the language has as text is text: it was checked where it was made.
-    pub fn from_str(text: &'a str) -> Text<'a>
-        ensures { result.part.now ≡ text.now }
-    {
-        Text {
-            part: text.as_bytes(),
-        }
-    }
-
     // Its bytes.
     pub fn as_bytes(&self) -> &'a [u8]
         ensures { result.now ≡ self.now.part.now }
@@ -55,6 +47,30 @@ impl<'a> Text<'a> {
     {
         // SAFETY: the bytes are UTF-8, which is proved.
         unsafe { std::str::from_utf8_unchecked(self.part) }
+    }
+}
+
+// What the language has as text is text: it was checked where it was made.
+impl<'a> From<&'a str> for Text<'a> {
+    ghost from_gives = { λ text r. r.part.now ≡ text.now };
+
+    fn from(text: &'a str) -> Text<'a> {
+        Text {
+            part: text.as_bytes(),
+        }
+    }
+}
+
+// Bytes are text where they are UTF-8.
+impl<'a> TryFrom<&'a [u8]> for Text<'a> {
+    type Error = ElementFault;
+
+    ghost try_from_gives = { λ bytes r. MatchResult r (λ text. (valid bytes.now ≡ true) × (text.part.now ≡ bytes.now)) (λ fault. (valid bytes.now ≡ false) × (fault ≡ NotUtf8)) };
+
+    fn try_from(bytes: &'a [u8]) -> Result<Text<'a>, ElementFault> {
+        let mut text = Text::blank();
+        text.fill(bytes)?;
+        Ok(text)
     }
 }
 
@@ -79,8 +95,9 @@ impl<'a> Decodable<'a> for Text<'a> {
         Text { part: &[] }
     }
 
+    #[tactic(auto, unfolding(crate::specs::Elements::reads_text))]
     fn decode(&mut self, bytes: &'a [u8]) -> Result<usize, ElementFault> {
-        let (len, used) = leb128_u64(bytes)?;
+        let (len, used) = read_leb128::<u64>(bytes)?;
         if len > (bytes.len() - used) as u64 {
             return Err(ElementFault::PastEnd);
         }
@@ -93,11 +110,11 @@ impl<'a> Decodable<'a> for Text<'a> {
 impl<'a> Encodable<'a> for Text<'a> {
     fn encode<O: Output>(&self, out: &mut O) -> Result<(), SinkRefused> {
         let bytes = self.as_bytes();
-        write_uleb(out, bytes.len() as u64)?;
+        write_leb128(out, bytes.len() as u64)?;
         append(out, bytes)
     }
 
     fn same(&self, other: &Text<'a>) -> bool {
-        self.as_bytes() == other.as_bytes()
+        self == other
     }
 }

@@ -1,6 +1,6 @@
 // A sink over lent memory.
 ghost use Rattle.std.specs.Prelude.{◌≡◌, ℕ, ◌≤◌, length, take, drop};
-ghost use Rattle.codec.specs.Sinks.{roomy};
+ghost use Rattle.codec.specs.Sinks.{holding, roomy};
 
 use crate::encoding::{Sink, SinkRefused};
 
@@ -31,18 +31,14 @@ impl<'a> BufferSink<'a> {
 }
 
 impl Sink for BufferSink<'_> {
-    ghost held = { λ s. take s.len s.buf.now };
-
-    ghost free = { λ s. drop s.len s.buf.now };
-
     ghost Kept = { ℕ × ℕ };
 
-    ghost kept = { λ s. (length s.buf.now, s.buf.ghost_name) };
+    ghost holds = { λ s. holding (take s.len s.buf.now) (drop s.len s.buf.now) (length s.buf.now, s.buf.ghost_name) };
 
     ghost rule = { λ k. roomy k.0 };
 
     fn put(&mut self, byte: u8) -> Result<(), SinkRefused> {
-        if self.len < self.buf.len() {
+        if self.accepts(byte) {
             self.buf[self.len] = byte;
             self.len += 1;
             Ok(())

@@ -1,6 +1,6 @@
 // A sink that takes expected bytes only: what is written to it is compared, and stored nowhere.
 ghost use Rattle.std.specs.Prelude.{◌≡◌, ℕ, ◌≤◌, List, [], length, take};
-ghost use Rattle.codec.specs.Sinks.{expecting};
+ghost use Rattle.codec.specs.Sinks.{holding, expecting};
 
 use crate::encoding::{Sink, SinkRefused};
 
@@ -23,18 +23,14 @@ impl<'a> CheckSink<'a> {
 }
 
 impl Sink for CheckSink<'_> {
-    ghost held = { λ s. take s.len s.expected.now };
-
-    ghost free = { λ _. [] };
-
     ghost Kept = { List ℕ };
 
-    ghost kept = { λ s. s.expected.now };
+    ghost holds = { λ s. holding (take s.len s.expected.now) [] s.expected.now };
 
     ghost rule = { expecting };
 
     fn put(&mut self, byte: u8) -> Result<(), SinkRefused> {
-        if self.len < self.expected.len() && self.expected[self.len] == byte {
+        if self.accepts(byte) {
             self.len += 1;
             Ok(())
         } else {
@@ -47,6 +43,6 @@ impl Sink for CheckSink<'_> {
     }
 
     fn accepts(&self, byte: u8) -> bool {
-        self.len < self.expected.len() && self.expected[self.len] == byte
+        self.expected.get(self.len) == Some(&byte)
     }
 }

@@ -32,12 +32,8 @@ impl Output for Counter {
     ghost grows = { λ _ _. refl };
 
     fn tell(&mut self, _byte: u8) -> Result<(), SinkRefused> {
-        if self.count < usize::MAX {
-            self.count += 1;
-            Ok(())
-        } else {
-            Err(SinkRefused)
-        }
+        self.count = self.count.checked_add(1).ok_or(SinkRefused)?;
+        Ok(())
     }
 
     fn told(&self) -> usize {

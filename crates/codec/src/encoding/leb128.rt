@@ -1,11 +1,11 @@
 // How numbers are written: LEB128 as DWARF defines it, in its shortest form.
 ghost use Rattle.std.specs.Prelude.{◌≡◌, ◌<◌, ◌≤◌, length, is_ok};
-ghost use Rattle.std.specs.Int.Signed.{mag};
 ghost use Rattle.codec.specs.Feed.{Fed};
-ghost use Rattle.codec.specs.Sinks.{holding, Told};
-ghost use Rattle.codec.specs.Leb128.{unsigned, signed, group, groups, uleb, sleb, read_unsigned, read_signed, Returns};
+ghost use Rattle.codec.specs.Sinks.{Told};
+ghost use Rattle.codec.specs.Leb128.{group, groups, Returns};
 
 use crate::encoding::{Output, Sink, SinkRefused};
+use crate::integer::{Bits, Integer};
 
 // The seven bits of a group, all inverted for a negative number.
 fn seven_bits(bits: u8, negative: bool) -> u8
@@ -15,12 +15,14 @@ fn seven_bits(bits: u8, negative: bool) -> u8
     if negative { 127 - bits } else { bits }
 }
 
-// The groups of `n`, the lowest first, up to the first that is below `top` and has none behind it.
-fn write_groups<O: Output>(out: &mut O, n: u64, top: u64, negative: bool) -> Result<(), SinkRefused>
+// The groups of a number, the lowest first, up to the first that is below `top` and has none behind
+// it.
+fn write_groups<O: Output>(out: &mut O, bits: Bits, top: u64) -> Result<(), SinkRefused>
     requires { (0 < top) × (top ≤ 128) }
-    ensures { Fed O.takes O.step (O.state out.old) (groups top negative n) (is_ok result) (O.state out.new) }
+    ensures { Fed O.takes O.step (O.state out.old) (groups top bits.negative bits.magnitude) (is_ok result) (O.state out.new) }
 {
-    let mut rest = n;
+    let negative = bits.negative;
+    let mut rest = bits.magnitude;
     while rest >= top {
         out.tell(128 + seven_bits((rest % 128) as u8, negative))?;
         rest /= 128;
@@ -28,67 +30,33 @@ fn write_groups<O: Output>(out: &mut O, n: u64, top: u64, negative: bool) -> Res
     out.tell(seven_bits(rest as u8, negative))
 }
 
-// The number, or -1 less the number where it is negative: its bits, which are inverted there.
-fn magnitude(val: i64) -> u64
-    ensures { result ≡ mag val }
+// The number in its shortest form.
+pub fn write_leb128<N: Integer, O: Output>(out: &mut O, val: N) -> Result<(), SinkRefused>
+    ensures wrote { Fed O.takes O.step (O.state out.old) (N.code (N.means val)) (is_ok result) (O.state out.new) }
+    ensures code { Returns N.value N.reads (N.means val) (N.code (N.means val)) }
 {
-    if val < 0 {
-        (-1 - val) as u64
-    } else {
-        val as u64
-    }
+    write_groups(out, val.to_bits(), u64::from(N::TOP))
 }
 
-// The unsigned number in its shortest form.
-pub fn write_uleb<O: Output>(out: &mut O, val: u64) -> Result<(), SinkRefused>
-    ensures wrote { Fed O.takes O.step (O.state out.old) (uleb val) (is_ok result) (O.state out.new) }
-    ensures code { Returns unsigned read_unsigned val (uleb val) }
+// The number to a sink, by what it then holds: the whole code, or the longest beginning that it
+// took.
+pub fn put_leb128<N: Integer, S: Sink>(sink: &mut S, val: N) -> Result<(), SinkRefused>
+    ensures told { Told S.rule (S.holds sink.old) (N.code (N.means val)) (is_ok result) (S.holds sink.new) }
+    ensures code { Returns N.value N.reads (N.means val) (N.code (N.means val)) }
 {
-    write_groups(out, val, 128, false)
+    write_leb128(sink, val)
 }
 
-// The signed number in its shortest form. The last group leaves its highest bit for the sign.
-pub fn write_sleb<O: Output>(out: &mut O, val: i64) -> Result<(), SinkRefused>
-    ensures wrote { Fed O.takes O.step (O.state out.old) (sleb val) (is_ok result) (O.state out.new) }
-    ensures code { Returns signed read_signed val (sleb val) }
-{
-    write_groups(out, magnitude(val), 64, val < 0)
-}
-
-// The unsigned number to a sink, by what it then holds: the whole code, or the longest beginning
-// that it took.
-pub fn put_uleb<S: Sink>(sink: &mut S, val: u64) -> Result<(), SinkRefused>
-    ensures told { Told S.rule (holding (S.held sink.old) (S.free sink.old) (S.kept sink.old)) (uleb val) (is_ok result) (holding (S.held sink.new) (S.free sink.new) (S.kept sink.new)) }
-    ensures code { Returns unsigned read_unsigned val (uleb val) }
-{
-    write_uleb(sink, val)
-}
-
-// The signed number to a sink, in the same words.
-pub fn put_sleb<S: Sink>(sink: &mut S, val: i64) -> Result<(), SinkRefused>
-    ensures told { Told S.rule (holding (S.held sink.old) (S.free sink.old) (S.kept sink.old)) (sleb val) (is_ok result) (holding (S.held sink.new) (S.free sink.new) (S.kept sink.new)) }
-    ensures code { Returns signed read_signed val (sleb val) }
-{
-    write_sleb(sink, val)
-}
-
-// How many bytes the unsigned number takes.
-pub fn ulebsize(val: u64) -> u64
-    ensures size { result ≡ length (uleb val) }
+// How many bytes the number takes: seven bits of it in each, of which the last leaves one for the
+// sign if there is one.
+pub fn lebsize<N: Integer>(val: N) -> u64
+    ensures size { result ≡ length (N.code (N.means val)) }
     ensures some { 1 ≤ result }
     ensures few { result ≤ 10 }
 {
-    if val == 0 {
+    let bits = val.to_bits().magnitude * (128 / u64::from(N::TOP));
+    if bits == 0 {
         return 1;
     }
-    (64 - val.leading_zeros() as u64).div_ceil(7)
-}
-
-// How many bytes the signed number takes: one bit more than its magnitude, for the sign.
-pub fn lebsize(val: i64) -> u64
-    ensures size { result ≡ length (sleb val) }
-    ensures some { 1 ≤ result }
-    ensures few { result ≤ 10 }
-{
-    ulebsize(2 * magnitude(val))
+    (64 - bits.leading_zeros() as u64).div_ceil(7)
 }

@@ -1,22 +1,20 @@
 // The bytes of one number as groups of seven bits: where they end, and what they are worth.
-ghost use Rattle.std.specs.Prelude.{◌≡◌, ◌+◌, ◌-◌, ◌*◌, ◌^◌, ◌<◌, ◌≤◌, Err, MatchResult};
+ghost use Rattle.std.specs.Prelude.{◌≡◌, ℕ, ◌+◌, ◌-◌, ◌*◌, ◌^◌, ◌<◌, ◌≤◌, Bool, Err, MatchResult, MatchOption};
 ghost use Rattle.codec.specs.Leb128.{frame_at};
-ghost use Rattle.codec.specs.Frames.{worth, Found, FoundSigned, number_of};
+ghost use Rattle.codec.specs.Frames.{worth, Found, Split};
 
+use crate::integer::Bits;
 use crate::parse::fault::NumberFault;
 
 // The most bytes that the code of a 64-bit number takes.
-pub(crate) const LONGEST: usize = 10;
+const LONGEST: usize = 10;
 
 // A byte's high bit: another byte follows.
 const MORE: u8 = 0x80;
 
-// The highest bit of a group, which in the last one of a signed number is the sign.
-const SIGN: u8 = 0x40;
-
 // The groups of a number: what those before the last are worth, the last one, and how many bytes
 // they take.
-#[derive(Drop)]
+#[derive(Clone, Copy)]
 pub(crate) struct Frame {
     pub(crate) low: u64,
     pub(crate) last: u8,
@@ -27,25 +25,27 @@ pub(crate) struct Frame {
     ghost below: { low < 128 ^ (used - 1) },
 }
 
-// Seven bits behind `i` groups.
-fn at_place(bits: u8, i: usize) -> u64
-    requires { (bits < 128) × ((bits * 128 ^ i < 2 ^ 64) × (i < 10)) }
+// Bits of a byte behind `i` groups.
+pub(crate) fn at_place(bits: u8, i: usize) -> u64
+    requires { (bits * 128 ^ i < 2 ^ 64) × (i < 10) }
     ensures { result ≡ bits * 128 ^ i }
 {
-    (bits as u64) << (7 * i)
+    u64::from(bits) << (7 * i)
 }
 
 impl Frame {
-    // The number that the groups make, where it fits.
-    pub(crate) fn value(&self) -> u64
-        requires { worth self.now.low self.now.last self.now.used < 2 ^ 64 }
-        ensures { result ≡ worth self.now.low self.now.last self.now.used }
+    // What the groups are worth, where that fits 64 bits: nine groups have 63 of them.
+    fn value(&self) -> Option<u64>
+        ensures { MatchOption result (2 ^ 64 ≤ worth self.now.low self.now.last self.now.used) (λ n. n ≡ worth self.now.low self.now.last self.now.used) }
     {
-        self.low + at_place(self.last, self.used - 1)
+        if self.used == LONGEST && self.last > 1 {
+            return None;
+        }
+        Some(self.low + at_place(self.last, self.used - 1))
     }
 
     // The same number of groups, with every bit inverted.
-    pub(crate) fn inverted(self) -> Frame
+    fn inverted(self) -> Frame
         ensures low { result.low + self.low + 1 ≡ 128 ^ (self.used - 1) }
         ensures last { result.last + self.last ≡ 127 }
         ensures used { result.used ≡ self.used }
@@ -56,6 +56,21 @@ impl Frame {
             last: 127 - self.last,
             used: self.used,
         }
+    }
+
+    // The sign and bits of the number that the groups make, where they fit 64 bits. From `top` on
+    // the last group has a sign, and all bits are inverted.
+    pub(crate) fn bits(self, top: u8) -> Option<Bits>
+        requires { (64 ≤ top) × (top ≤ 128) }
+        ensures { MatchOption result ((negative : Bool) × (m : ℕ) × Split top (worth self.low self.last self.used) self.used negative m × (2 ^ 64 ≤ m)) (λ b. Split top (worth self.low self.last self.used) self.used b.negative b.magnitude) }
+    {
+        let negative = self.last >= top;
+        let frame = if negative { self.inverted() } else { self };
+        let magnitude = frame.value()?;
+        Some(Bits {
+            negative,
+            magnitude,
+        })
     }
 }
 
@@ -78,29 +93,4 @@ pub(crate) fn frame_at(bytes: &[u8]) -> Result<Frame, NumberFault>
         low += at_place(*byte & 0x7f, i);
     }
     Err(NumberFault::CutShort)
-}
-
-// The signed number that the bytes start with: whether it is negative, and its groups. Those of a
-// negative one are inverted, since -1 - n is n with every bit inverted.
-pub(crate) fn signed_frame_at(bytes: &[u8]) -> Result<(bool, Frame), NumberFault>
-    ensures { MatchResult result (λ p. FoundSigned bytes.now p.0 p.1.low p.1.last p.1.used) (λ e. frame_at bytes.now ≡ Err e) }
-{
-    let frame = frame_at(bytes)?;
-    if frame.last < SIGN {
-        Ok((false, frame))
-    } else {
-        Ok((true, frame.inverted()))
-    }
-}
-
-// The signed number by its sign and its bits, which are inverted where it is negative.
-pub(crate) fn number_of(negative: bool, bits: u64) -> i64
-    requires { bits < 2 ^ 63 }
-    ensures { result ≡ number_of negative bits }
-{
-    if negative {
-        -1 - bits as i64
-    } else {
-        bits as i64
-    }
 }

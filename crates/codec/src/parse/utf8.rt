@@ -1,8 +1,10 @@
 // Text: UTF-8 as RFC 3629 has it.
-ghost use Rattle.std.specs.Prelude.{◌≡◌, ℕ, ◌+◌, ◌<◌, ◌≤◌, true, false, List, ◌++◌, length, drop, IsUtf8, Decides, MatchOption};
-ghost use Rattle.codec.specs.Utf8.{length_of, low_of, high_of, follows, char_at, valid, Octets};
+ghost use Rattle.std.specs.Prelude.{◌≡◌, ◌-◌, ◌≤◌, true, false, length, IsUtf8, Decides, MatchOption};
+ghost use Rattle.std.specs.Range.{range_inclusive_start, range_inclusive_end, range_inclusive_exhausted};
+ghost use Rattle.codec.specs.Utf8.{low_of, high_of, follows, char_at, valid, Octets};
 
 use crate::parse::first::char_len;
+use std::ops::RangeInclusive;
 
 // The bytes below this are characters of their own.
 const ASCII: u8 = 0x80;
@@ -10,96 +12,56 @@ const ASCII: u8 = 0x80;
 // So many bytes are looked at together for one that is not.
 const BLOCK: usize = 16;
 
-// The least second byte behind a first one.
-fn low_of(first: u8) -> u8
-    ensures { result ≡ low_of first }
+// The second bytes that may stand behind a first one.
+fn seconds(first: u8) -> RangeInclusive<u8>
+    ensures low { range_inclusive_start result ≡ low_of first }
+    ensures high { range_inclusive_end result ≡ high_of first }
+    ensures whole { range_inclusive_exhausted result ≡ false }
 {
     match first {
-        0xe0 => 0xa0,
-        0xf0 => 0x90,
-        _ => 0x80,
+        0xe0 => 0xa0..=0xbf,
+        0xed => 0x80..=0x9f,
+        0xf0 => 0x90..=0xbf,
+        0xf4 => 0x80..=0x8f,
+        _ => 0x80..=0xbf,
     }
 }
 
-// The greatest second byte behind a first one.
-fn high_of(first: u8) -> u8
-    ensures { result ≡ high_of first }
+// Whether the bytes, which follow a first one, are the others of a character.
+fn are_tails(first: u8, bytes: &[u8]) -> bool
+    ensures { result ≡ follows (length bytes.now) (low_of first) (high_of first) bytes.now }
 {
-    match first {
-        0xed => 0x9f,
-        0xf4 => 0x8f,
-        _ => 0xbf,
-    }
-}
-
-// Whether the bytes, which follow a first one, are those of a character: the next from `low` to
-// `high`, and each other from 80 to BF.
-fn are_tails(bytes: &[u8], low: u8, high: u8) -> bool
-    ensures { result ≡ follows (length bytes.now) low high bytes.now }
-{
-    let mut low = low;
-    let mut high = high;
-    for byte in bytes {
-        if *byte < low || *byte > high {
-            return false;
+    match bytes {
+        [] => true,
+        [second, rest @ ..] => {
+            seconds(first).contains(second) && rest.iter().all(|byte| matches!(*byte, 0x80..=0xbf))
         }
-        low = 0x80;
-        high = 0xbf;
-    }
-    true
-}
-
-// The length of the character at a place, 0 where none stands there.
-fn char_at(bytes: &[u8], at: usize) -> usize
-    requires { at < length bytes.now }
-    ensures char { result ≡ char_at (drop at bytes.now) }
-    ensures within { at + result ≤ length bytes.now }
-{
-    let first = bytes[at];
-    if first < ASCII {
-        return 1;
-    }
-    let len = char_len(first);
-    if len < 2 {
-        return len;
-    }
-    if len > bytes.len() - at {
-        return 0;
-    }
-    if are_tails(&bytes[at + 1..at + len], low_of(first), high_of(first)) {
-        len
-    } else {
-        0
     }
 }
 
-// Whether no byte is above 7F, as the bits of all of them together tell: one answer for the whole,
-// so that the loop is compiled to vectors.
-fn all_ascii(bytes: &[u8]) -> bool
-    ensures { (rest : List ℕ) → result ≡ true → valid (bytes.now ++ rest) ≡ valid rest }
+// The length of the character that the bytes start with.
+fn char_at(bytes: &[u8]) -> Option<usize>
+    ensures { MatchOption result (char_at bytes.now ≡ 0) (λ len. (len ≡ char_at bytes.now) × (1 ≤ len) × (len ≤ length bytes.now)) }
 {
-    let mut bits = 0;
-    for byte in bytes {
-        bits |= *byte;
+    let (first, behind) = bytes.split_first()?;
+    if *first < ASCII {
+        return Some(1);
     }
-    bits < ASCII
+    let len = char_len(*first)?;
+    are_tails(*first, behind.get(..len - 1)?).then_some(len)
 }
 
-// Goes on from a place, character by character, until `stop` is reached or passed. The place
-// then, or nothing where no character stands.
-fn walk(bytes: &[u8], from: usize, stop: usize) -> Option<usize>
-    requires { (from ≤ length bytes.now) × (stop ≤ length bytes.now) }
-    ensures { MatchOption result (valid (drop from bytes.now) ≡ false) (λ at. (valid (drop from bytes.now) ≡ valid (drop at bytes.now)) × (stop ≤ at) × (from ≤ at) × (at ≤ length bytes.now)) }
+// Goes past the characters that start in the first block of bytes. What stands behind them, or
+// nothing where a character is missing.
+fn walk(bytes: &[u8]) -> Option<&[u8]>
+    ensures { MatchOption result (valid bytes.now ≡ false) (λ rest. (valid bytes.now ≡ valid rest.now) × (length rest.now ≤ length bytes.now - 16)) }
 {
-    let mut at = from;
-    while at < stop {
-        let len = char_at(bytes, at);
-        if len == 0 {
-            return None;
-        }
-        at += len;
+    let stop = bytes.len().saturating_sub(BLOCK);
+    let mut rest = bytes;
+    while rest.len() > stop {
+        rest = &rest[char_at(rest)?..];
     }
-    Some(at)
+    Some(rest)
 }
 
 // Whether the bytes are text.
@@ -107,29 +69,25 @@ pub fn is_utf8(bytes: &[u8]) -> bool
     ensures answer { result ≡ valid bytes.now }
     ensures grammar { Decides result (Octets bytes.now) }
 {
-    let mut at = 0;
-    while at < bytes.len() {
-        if bytes.len() - at >= BLOCK && all_ascii(&bytes[at..at + BLOCK]) {
-            at += BLOCK;
-        } else {
-            match walk(bytes, at, at + BLOCK.min(bytes.len() - at)) {
-                Some(next) => at = next,
+    let mut left = bytes;
+    while !left.is_empty() {
+        left = match left.split_first_chunk::<BLOCK>() {
+            Some((block, behind)) if block.is_ascii() => behind,
+            _ => match walk(left) {
+                Some(behind) => behind,
                 None => return false,
-            }
-        }
+            },
+        };
     }
     true
 }
 
-// The bytes as text, exactly where they are text.
+// The bytes as text, exactly where they are text: the table and the proof here decide, and not
+// `std::str::from_utf8`.
 pub fn text(bytes: &[u8]) -> Option<&str>
     ensures cases { MatchOption result (valid bytes.now ≡ false) (λ t. (valid bytes.now ≡ true) × (t.now ≡ bytes.now)) }
     ensures language { Decides (valid bytes.now) (IsUtf8 bytes.now) }
 {
-    if is_utf8(bytes) {
-        // SAFETY: the bytes are UTF-8, which is proved.
-        Some(unsafe { std::str::from_utf8_unchecked(bytes) })
-    } else {
-        None
-    }
+    // SAFETY: the bytes are UTF-8, which is proved.
+    is_utf8(bytes).then(|| unsafe { std::str::from_utf8_unchecked(bytes) })
 }

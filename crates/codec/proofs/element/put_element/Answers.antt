@@ -15,10 +15,10 @@ returns g c =
     let s = g.S.Sink in
     let m = k.means c.args.element.now in
     let told = at_sink c.encode.ensures in
-    let new = drop (length (s.held c.args.sink.now)) (s.held c.encode.new.out) in
+    let new = drop (length ((s.holds c.args.sink.now).held)) ((s.holds c.encode.new.out).held) in
     let laws = k.laws in
     let is : is_ok c.encode.result ≡ true → k.code m ≡ new =
-    λ ok. sym (ap (drop (length (s.held c.args.sink.now))) (told.holds ∙ ap (λ (bs : List ℕ). s.held c.args.sink.now ++ bs) (told.whole ok)) ∙ drop_at (s.held c.args.sink.now) (k.code m) (length (s.held c.args.sink.now)) refl)
+    λ ok. sym (ap (drop (length ((s.holds c.args.sink.now).held))) (told.holds ∙ ap (λ (bs : List ℕ). (s.holds c.args.sink.now).held ++ bs) (told.whole ok)) ∙ drop_at ((s.holds c.args.sink.now).held) (k.code m) (length ((s.holds c.args.sink.now).held)) refl)
     in
     record {
       told = told;

@@ -1,4 +1,5 @@
-use Rattle.std.proofs.Common.{ℕ, ◌<◌, Bool, eqb, List, ◌++◌, replicate, eqb→eq, rules}
+use Rattle.std.proofs.Common.{ℕ, ◌<◌, Bool, eqb, List, ◌++◌, replicate, refl, rules, arith}
+use Rattle.std.proofs.lemmas.Grind.{common_steps}
 use Rattle.codec.specs.Utf8.{length_of}
 use Rattle.codec.proofs.Tables.{every_at}
 use Rattle.codec.proofs.parse.first.char_len.Goals as goal
@@ -14,4 +15,5 @@ pub returns : goal.returns
 unfolding right table
 returns c =
     let h : c.args.first < 256 = search rules in
-    eqb→eq _ (length_of c.args.first) (every_at right table tt c.args.first h)
+    let r = every_at right table refl c.args.first h in
+    rw c.then_some.ensures (rw c.from-len.ensures (grind (arith, common_steps, r)))

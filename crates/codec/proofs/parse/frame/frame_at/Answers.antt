@@ -16,7 +16,7 @@ returns-then-i-eq-LONGEST c =
 pub at_place-low-requires : goal.at_place-low-requires
 at_place-low-requires c =
     let g = group_fits (get_or c.args.bytes.now c.loop-i.i 0) c.loop-i.i c.loop-i.invariant.0 in
-    (g.0, (omega (arith, g.1, pow_most c.loop-i.i 8 (omega arith)), omega arith))
+    (omega (arith, g.1, pow_most c.loop-i.i 8 (omega arith)), omega arith)
 
 pub overflow_add-low : goal.overflow_add-low
 overflow_add-low c =

@@ -1,33 +1,23 @@
-use Rattle.std.proofs.Common.{◌≡◌, ℕ, ◌+◌, ◌-◌, true, false, List, ◌++◌, take, drop, sym, ap, ◌∙◌, arith}
-use Rattle.std.proofs.lemmas.List.{at_drop_all, take-append-drop, drop-drop}
+use Rattle.std.proofs.Common.{◌≡◌, ℕ, true, false, List, ◌++◌, take, drop, rules, sym, ap, ◌∙◌, arith}
+use Rattle.std.proofs.lemmas.List.{take-append-drop}
+use Rattle.std.proofs.lemmas.Grind.{common_steps}
 use Rattle.codec.specs.Utf8.{valid}
+use Rattle.codec.proofs.Chars.{valid_block}
 use Rattle.codec.proofs.Grammar.{decides_octets}
 use Rattle.codec.proofs.parse.utf8.is_utf8.Goals as goal
 
--- a block and what stands behind it
-block : (bytes : List ℕ) (at n : ℕ) → take ((at + n) - at) (drop at bytes) ++ drop (at + n) bytes ≡ drop at bytes
-block bytes at n =
-    let k : (at + n) - at ≡ n = omega arith in
-    ap (λ (m : ℕ). take m (drop at bytes) ++ drop (at + n) bytes) k
-    ∙ ap (λ (l : List ℕ). take n (drop at bytes) ++ l) (sym (drop-drop n at bytes))
-    ∙ take-append-drop n (drop at bytes)
+-- a part in front and what stands behind it
+split : (n : ℕ) (all front behind : List ℕ) → front ≡ take n all → behind ≡ drop n all → front ++ behind ≡ all
+split n all front behind f b = rw f (rw b (take-append-drop n all))
 
-pub loop-at-preserved-then-all_ascii : goal.loop-at-preserved-then-all_ascii
-loop-at-preserved-then-all_ascii c =
-    let bytes = c.args.bytes.now in
-    let at = c.loop-at.at in
-    (sym (ap valid (sym (block bytes at 16)) ∙ c.all_ascii.ensures (drop (at + 16) bytes) c.if-all_ascii.true) ∙ c.loop-at.invariant.0, omega (arith, c.if-bytes-at-ge-BLOCK.true, c.loop-at.invariant.1))
+pub returns-in-None-clause-grammar : goal.returns-in-None-clause-grammar
+returns-in-None-clause-grammar c = decides_octets c.args.bytes.now false (search rules)
 
-pub loop-at-preserved : goal.loop-at-preserved
-loop-at-preserved c = (sym c.in-Some.ensures.0 ∙ c.loop-at.invariant.0, c.in-Some.ensures.3)
-
-pub returns-in-None : goal.returns-in-None
-returns-in-None c =
-    let e = sym c.in-None.ensures ∙ c.loop-at.invariant.0 in
-    record { answer = e; grammar = decides_octets c.args.bytes.now false e }
+pub loop-left-preserved-in-Some : goal.loop-left-preserved-in-Some
+loop-left-preserved-in-Some c =
+    let block = valid_block c.in-Some.block.now c.in-Some.behind.now c.if-is_ascii.ensures.cases in
+    c.loop-left.invariant ∙ sym (ap valid (split 16 _ _ _ c.in-Some.ensures.cases.0 c.in-Some.ensures.cases.1)) ∙ block
 
 pub returns : goal.returns
 unfolding valid
-returns c =
-    let e : true ≡ valid c.args.bytes.now = sym (at_drop_all valid c.args.bytes.now c.loop-at.at c.loop-at-test.false) ∙ c.loop-at.invariant.0 in
-    record { answer = e; grammar = decides_octets c.args.bytes.now true e }
+returns c = let e : true ≡ valid c.args.bytes.now = grind (arith, common_steps) in record { answer = e; grammar = decides_octets c.args.bytes.now true e }

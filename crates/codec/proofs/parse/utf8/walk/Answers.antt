@@ -1,14 +1,10 @@
-use Rattle.std.proofs.Common.{◌<◌, length, sym, ◌∙◌, arith}
+use Rattle.std.proofs.Common.{◌∙◌, arith}
+use Rattle.std.proofs.lemmas.Grind.{common_steps}
 use Rattle.codec.proofs.Chars.{valid_none, valid_next}
 use Rattle.codec.proofs.parse.utf8.walk.Goals as goal
 
-pub returns-then-len-eq0 : goal.returns-then-len-eq0
-returns-then-len-eq0 c =
-    let inside : c.loop-at.at < length c.args.bytes.now = omega (arith, c.requires, c.loop-at-test.true) in
-    c.loop-at.invariant.0 ∙ valid_none c.args.bytes.now c.loop-at.at inside (sym c.char_at-len.ensures.char ∙ c.if-len-eq0.true)
+pub returns-in_err-rest : goal.returns-in_err-rest
+returns-in_err-rest c = rw c.from_residual.ensures (c.loop-rest.invariant ∙ valid_none c.loop-rest.rest.now (omega arith) c.in_err-rest.ensures)
 
-pub loop-at-preserved : goal.loop-at-preserved
-loop-at-preserved c =
-    let inside : c.loop-at.at < length c.args.bytes.now = omega (arith, c.requires, c.loop-at-test.true) in
-    let inv = c.loop-at.invariant in
-    (inv.0 ∙ valid_next c.args.bytes.now c.loop-at.at inside c.char_at-len.result c.char_at-len.ensures.char c.if-len-eq0.false, omega (arith, inv.1), omega (arith, c.char_at-len.ensures.within))
+pub loop-rest-preserved : goal.loop-rest-preserved
+loop-rest-preserved c = let n = valid_next c.loop-rest.rest.now c.in_ok-rest.field-0 c.in_ok-rest.ensures.0 c.in_ok-rest.ensures.1 in grind (arith, common_steps, n)

@@ -1,9 +1,10 @@
-use Rattle.std.proofs.Common.{◌≡◌, ◌-◌, ◌≤◌, length, drop}
+use Rattle.std.proofs.Common.{◌≡◌, length}
 use Rattle.codec.specs.Utf8.{valid}
 use Rattle.codec.proofs.parse.utf8.walk.Given as goal
 
-abbrev pub invariant-loop-at : goal.invariant-loop-at
-invariant-loop-at l = (valid (drop l.from l.bytes) ≡ valid (drop l.at l.bytes)) × (l.from ≤ l.at) × (l.at ≤ length l.bytes)
+-- what is left gives the whole answer
+abbrev pub invariant-loop-rest : goal.invariant-loop-rest
+invariant-loop-rest l = valid l.bytes ≡ valid l.rest
 
-abbrev pub decreases-loop-at : goal.decreases-loop-at
-decreases-loop-at l = length l.bytes - l.at
+abbrev pub decreases-loop-rest : goal.decreases-loop-rest
+decreases-loop-rest l = length l.rest

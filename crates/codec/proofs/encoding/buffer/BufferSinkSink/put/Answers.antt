@@ -1,14 +1,15 @@
 use Rattle.std.proofs.Common.{ℕ, ◌+◌, ◌<◌, List, [], ◌∷◌, ◌++◌, length, take, drop, set, sym, ap, ◌∙◌, arith, rules}
-use Rattle.std.proofs.lemmas.List.{take_more_set, length-set, drop-set-lt, drop-drop}
+use Rattle.std.proofs.lemmas.Bool.{ltb-true}
+use Rattle.std.proofs.lemmas.List.{length-take-le, take_more_set, length-set, drop-set-lt, drop-drop}
 use Rattle.codec.specs.Sinks.{holding}
 use Rattle.codec.proofs.encoding.buffer.BufferSinkSink.put.Goals as goal
 
-pub returns-then-self : goal.returns-then-self
-returns-then-self c =
+pub returns-then-accepts : goal.returns-then-accepts
+returns-then-accepts c =
     let xs = c.args.self.now.buf.now in
     let i = c.args.self.now.len in
     let b = c.args.byte in
-    let free : i < length xs = omega arith in
+    let free : i < length xs = omega (arith, ltb-true _ _ (sym c.accepts.ensures ∙ c.if-accepts.true), length-take-le i xs c.args.self.now.inside) in
     record {
       answer = search rules;
       after =

@@ -1,5 +1,0 @@
-use Rattle.codec.proofs.Feeds.{at_sink}
-use Rattle.codec.proofs.encoding.leb128.put_uleb.Goals as goal
-
-pub returns : goal.returns
-returns g c = let w = c.write_uleb.ensures in record { told = at_sink w.wrote; code = w.code }
