@@ -1,21 +1,21 @@
 -- What is written is read back.
 use Rattle.std.proofs.Common.{◌≡◌, ℕ, zero, suc, ◌+◌, ◌-◌, ◌^◌, ◌<◌, ◌≤◌, true, false, cond, eqb, ltb, leb, List, [], ◌∷◌, ◌++◌, map, length, drop, replicate, ℤ, pos, negsuc, Some, None, Ok, Err, Decides, Option, sym, refl, ap, ◌∙◌, subst, append_assoc, add-zero, arith, length-append, length-drop, drop-drop, ne_eqb, le-leb}
-use lib.ListN.{length-replicate}
-use borrow.Author.Tests.{lt-leb}
-use Rattle.std.proofs.lemmas.List.{map-append, drop_at, length-map}
-use Rattle.std.proofs.lemmas.Bool.{cond-true, cond-false, lt-ltb, false≢true}
+use Rattle.std.proofs.lemmas.List.{map-append, drop_at, length-map, length-replicate}
+use Rattle.std.proofs.lemmas.Bool.{cond-true, cond-false, lt-ltb, lt-leb, false≢true}
 use Rattle.std.proofs.lemmas.Slice.Eq.{bytes_eq-Decides}
 use Rattle.std.specs.Str.{bytes_eq}
 use Rattle.codec.specs.Leb128.{uleb, sleb, read_unsigned, read_signed, fits_u64, fits_i64}
-use Rattle.codec.specs.Elements.{Reading, Laws, reads_unsigned, reads_signed}
+use Rattle.codec.specs.Elements.{Reading, Laws}
 use Rattle.codec.specs.Laws.Kinds.{unsigned_laws, signed_laws, numbered_ok}
 use Rattle.columns.specs.declared.fault.ColumnFault.TheVariants.{RunTooLong}
+use Rattle.columns.specs.declared.rle.run.Run.TheVariants.{Null as nullKind, Same as same, Literal as literalKind}
+use Rattle.columns.specs.declared.rle.run.Head.{Head as Lead}
 use Rattle.columns.specs.declared.rle.run.Shape.{Shape}
 use Rattle.columns.specs.declared.rle.run.Shape.TheVariants as shapes
-use Rattle.columns.specs.Runs.{Outcome, number, element, and_then, shape, shape_at, reads_shape, reads_nulls, shaped, header, nulls as nullKind, same, literal as literalKind, Lead}
+use Rattle.columns.specs.Runs.{Outcome, number, element, and_then, shape, shape_at, reads_shape, reads_nulls, shaped, header}
 use Rattle.columns.specs.Column.{Entry, null, item, written as writtenOut, spread, of_run, of_header, column, entries}
-use Rattle.columns.specs.Came.{came}
-use Rattle.columns.specs.Cut.{Group, nulls, run, literal, entries_in, flat, Largest, Whole, codes, group_code, group_codes, groups, any_element, written}
+use Rattle.std.specs.List.{concat}
+use Rattle.columns.specs.Cut.{Group, nulls, run, literal, entries_in, flat, Largest, Whole, group_code, group_codes, groups, any_element, written}
 use Rattle.columns.specs.Law.{spelt}
 use Rattle.columns.proofs.Cuts.{groups_flat, groups_largest}
 
@@ -36,11 +36,9 @@ AllOf Element code (Some c ∷ xs) = CodeOf Element code c × AllOf Element code
 
 -- a number that stands in front
 signed_back : (z : ℤ) (s : List ℕ) → fits_i64 z ≡ true → number (read_signed (sleb z ++ s)) ≡ Ok (z, length (sleb z))
-unfolding reads_signed
 signed_back z s fits = ap number (numbered_ok (read_signed (sleb z ++ s)) (z, length (sleb z)) (signed_laws.back z fits s))
 
 unsigned_back : (n : ℕ) (s : List ℕ) → fits_u64 n ≡ true → number (read_unsigned (uleb n ++ s)) ≡ Ok (n, length (uleb n))
-unfolding reads_unsigned
 unsigned_back n s fits = ap number (numbered_ok (read_unsigned (uleb n ++ s)) (n, length (uleb n)) (unsigned_laws.back n fits s))
 
 shape_back : (z : ℤ) (h : Shape) (s : List ℕ) → fits_i64 z ≡ true → shape z ≡ Ok h → reads_shape (sleb z ++ s) ≡ Ok (h, length (sleb z))
@@ -100,12 +98,6 @@ module _ {M : Type 0} (Element : M → Type 0) (code : M → List ℕ) where
       let n = length-append (entries_in g) (flat gs) in
       (group_fine g w.0 (omega arith) (all_left (entries_in g) (flat gs) a), all_fine gs w.2 (omega arith) (all_right (entries_in g) (flat gs) a))
 
-  -- one more entry of a list that is asked
-  pub all_came : {T : Type 0} (means : T → M) (holds : (x : T) → Element (means x)) (r : Option (Option T)) (before after : Codes) → before ≡ came code means r after → AllOf Element code after → AllOf Element code before
-  all_came means holds None before after e a = subst (AllOf Element code) (sym e) tt
-  all_came means holds (Some None) before after e a = subst (AllOf Element code) (sym e) a
-  all_came means holds (Some (Some x)) before after e a = subst (AllOf Element code) (sym e) (record { element = means x; fine = holds x; is = refl }, a)
-
 module _ {M : Type 0} {Element : M → Type 0} {code : M → List ℕ} (reads : List ℕ → Reading M) (laws : Laws Element code reads) where
   -- two elements with one code are one
   pub one_code : (m n : M) → Element m → Element n → code m ≡ code n → m ≡ n
@@ -131,16 +123,16 @@ module _ {M : Type 0} {Element : M → Type 0} {code : M → List ℕ} (reads : 
 
   -- in the data d
   module _ (d : List ℕ) where
-    spread_back : (cs : List (List ℕ)) (s : List ℕ) (p : ℕ) (k : ℕ → List (Entry M)) → Each Element code cs → drop p d ≡ codes cs ++ s → shown (spread reads d (length cs) p k) ≡ map Some (map Some cs) ++ shown (k (p + length (codes cs)))
+    spread_back : (cs : List (List ℕ)) (s : List ℕ) (p : ℕ) (k : ℕ → List (Entry M)) → Each Element code cs → drop p d ≡ concat cs ++ s → shown (spread reads d (length cs) p k) ≡ map Some (map Some cs) ++ shown (k (p + length (concat cs)))
     spread_back [] s p k a e = ap (λ (q : ℕ). shown (k q)) (sym (add-zero p))
     spread_back (c ∷ cs) s p k a e =
-        let at : drop p d ≡ c ++ (codes cs ++ s) = e ∙ append_assoc c (codes cs) s in
+        let at : drop p d ≡ c ++ (concat cs ++ s) = e ∙ append_assoc c (concat cs) s in
         let onward : ℕ → List (Entry M) = λ q. spread reads d (length cs) q k in
-        let size : (p + length c) + length (codes cs) ≡ p + length (c ++ codes cs) = omega (arith, length-append c (codes cs)) in
+        let size : (p + length c) + length (concat cs) ≡ p + length (c ++ concat cs) = omega (arith, length-append c (concat cs)) in
         ap (λ (u : List ℕ). shown (writtenOut (element (reads u)) p onward)) at
-        ∙ ap (λ (o : Outcome M). shown (writtenOut o p onward)) (code_back c a.0 (codes cs ++ s))
+        ∙ ap (λ (o : Outcome M). shown (writtenOut o p onward)) (code_back c a.0 (concat cs ++ s))
         ∙ ap (λ (b : List ℕ). Some (Some b) ∷ shown (onward (p + length c))) a.0.is
-        ∙ ap (λ (l : List (Option (Option (List ℕ)))). Some (Some c) ∷ l) (spread_back cs s (p + length c) k a.1 (behind d c (codes cs ++ s) p at))
+        ∙ ap (λ (l : List (Option (Option (List ℕ)))). Some (Some c) ∷ l) (spread_back cs s (p + length c) k a.1 (behind d c (concat cs ++ s) p at))
         ∙ ap (λ (q : ℕ). Some (Some c) ∷ (map Some (map Some cs) ++ shown (k q))) size
 
     -- a header with a number in front of t
@@ -183,11 +175,11 @@ module _ {M : Type 0} {Element : M → Type 0} {code : M → List ℕ} (reads : 
         ∙ ap (λ (q : ℕ). map Some (replicate (suc n) (Some c)) ++ shown (k (p + q))) (sym (length-append z c))
     group_back (literal c cs) s p k f at =
         let z = sleb (negsuc (length cs)) in
-        let t = codes (c ∷ cs) ++ s in
+        let t = concat (c ∷ cs) ++ s in
         let lead : Lead M = record { count = suc (length cs); run = literalKind } in
         let room : shape (negsuc (length cs)) ≡ Ok (shapes.Literal (suc (length cs))) = cond-true (ltb (length cs) (2 ^ 63 - 1)) _ _ (lt-ltb (length cs) (2 ^ 63 - 1) f.0) in
-        let here : drop p d ≡ z ++ t = at ∙ append_assoc z (codes (c ∷ cs)) s in
-        let size : (p + length z) + length (codes (c ∷ cs)) ≡ p + length (z ++ codes (c ∷ cs)) = omega (arith, length-append z (codes (c ∷ cs))) in
+        let here : drop p d ≡ z ++ t = at ∙ append_assoc z (concat (c ∷ cs)) s in
+        let size : (p + length z) + length (concat (c ∷ cs)) ≡ p + length (z ++ concat (c ∷ cs)) = omega (arith, length-append z (concat (c ∷ cs))) in
         ap shown (led p (length z) lead (z ++ t) k here (front (negsuc (length cs)) (shapes.Literal (suc (length cs))) t (lt-ltb (length cs) (2 ^ 63) (omega (arith, f.0))) room) (omega arith))
         ∙ spread_back (c ∷ cs) s (p + length z) k (f.1, f.2) (behind d z t p here)
         ∙ ap (λ (q : ℕ). map Some (map Some (c ∷ cs)) ++ shown (k q)) size
@@ -195,7 +187,7 @@ module _ {M : Type 0} {Element : M → Type 0} {code : M → List ℕ} (reads : 
     some_code : (g : Group (List ℕ)) → Fine Element code g → 0 < length (group_code g)
     some_code (nulls n) f = omega (arith, length-append (sleb (pos 0)) (uleb n), signed_laws.some (pos 0) refl)
     some_code (run n c) f = omega (arith, length-append (sleb (pos n)) c, signed_laws.some (pos n) (lt-ltb n (2 ^ 63) f.1))
-    some_code (literal c cs) f = omega (arith, length-append (sleb (negsuc (length cs))) (codes (c ∷ cs)), signed_laws.some (negsuc (length cs)) (lt-ltb (length cs) (2 ^ 63) (omega (arith, f.0))))
+    some_code (literal c cs) f = omega (arith, length-append (sleb (negsuc (length cs))) (concat (c ∷ cs)), signed_laws.some (negsuc (length cs)) (lt-ltb (length cs) (2 ^ 63) (omega (arith, f.0))))
 
     ended : (p : ℕ) → drop p d ≡ [] → length d ≤ p
     ended p e = omega (arith, length-drop p d, ap length e)

@@ -1,53 +1,14 @@
 -- Delta columns: what a step of the reader leaves, and that numbers return where their differences fit.
-use Rattle.std.proofs.Common.{◌≡◌, ℕ, ◌-◌, ◌^◌, min, true, List, [], ◌∷◌, map, ℤ, pos, negsuc, ◌+ℤ◌, ◌-ℤ◌, IfOk, Some, None, Ok, Err, Option, Result, refl, ap, ◌∙◌, arith}
+use Rattle.std.proofs.Common.{◌≡◌, ℕ, ◌-◌, ◌^◌, min, true, List, [], ◌∷◌, map, ℤ, pos, negsuc, ◌+ℤ◌, ◌-ℤ◌, Some, None, Option, refl, ap, ◌∙◌, arith}
 use Rattle.std.proofs.lemmas.Int.{ints}
 use Rattle.std.proofs.lemmas.Bool.{lt-ltb, ltb-true}
 use Rattle.std.specs.Int.{saturate_to_bits}
 use Rattle.codec.specs.Leb128.{sleb, fits_i64}
 use Rattle.codec.specs.Elements.{SignedElement, reads_signed}
-use Rattle.columns.specs.declared.fault.ColumnFault.{ColumnFault}
-use Rattle.columns.specs.declared.rle.run.Next.TheVariants as next
-use Rattle.columns.specs.Column.{Entry, null, item, fault, hollow, first, first_placed, others, none, entries}
+use Rattle.columns.specs.Column.{Entry, null, item, fault, hollow, entries}
 use Rattle.columns.specs.Cut.{any_element}
 use Rattle.columns.specs.Law.{plain, All, ReadBack}
-use Rattle.columns.specs.Deltas.{differences, sums, summed, first_number, codes_of, Fitting, DeltaBack}
-
-pub summed_none : (last : ℤ) (es : List (Entry ℤ)) → none (summed last es) ≡ none es
-summed_none last [] = refl
-summed_none last (null ∷ es) = refl
-summed_none last (item z p ∷ es) = refl
-summed_none last (fault f ∷ es) = refl
-summed_none last (hollow ∷ es) = refl
-
--- what the reader of the differences answered
-module _ (last : ℤ) where
-  pub at_fault : (es : List (Entry ℤ)) (f : ColumnFault) → Err f ≡ first es → (Err f ≡ first_number (summed last es)) × (summed last (others es) ≡ others (summed last es))
-  at_fault [] f e = let z : ◌≡◌ {A = ℕ} 0 1 = cc in absurd (omega arith)
-  at_fault (null ∷ es) f e = let z : ◌≡◌ {A = ℕ} 0 1 = cc in absurd (omega arith)
-  at_fault (item z p ∷ es) f e = let z : ◌≡◌ {A = ℕ} 0 1 = cc in absurd (omega arith)
-  at_fault (fault g ∷ es) f e = let q : f ≡ g = cc in (ap Err q, refl)
-  at_fault (hollow ∷ es) f e = let z : ◌≡◌ {A = ℕ} 0 1 = cc in absurd (omega arith)
-
-  pub at_end : (es : List (Entry ℤ)) → Ok next.End ≡ first es → (Ok None ≡ first_number (summed last es)) × (summed last (others es) ≡ others (summed last es))
-  at_end [] e = (refl, refl)
-  at_end (null ∷ es) e = let z : ◌≡◌ {A = ℕ} 0 1 = cc in absurd (omega arith)
-  at_end (item z p ∷ es) e = let z : ◌≡◌ {A = ℕ} 0 1 = cc in absurd (omega arith)
-  at_end (fault g ∷ es) e = let z : ◌≡◌ {A = ℕ} 0 1 = cc in absurd (omega arith)
-  at_end (hollow ∷ es) e = (refl, refl)
-
-  pub at_null : (es : List (Entry ℤ)) → Ok next.Null ≡ first es → (Ok (Some None) ≡ first_number (summed last es)) × (summed last (others es) ≡ others (summed last es))
-  at_null [] e = let z : ◌≡◌ {A = ℕ} 0 1 = cc in absurd (omega arith)
-  at_null (null ∷ es) e = (refl, refl)
-  at_null (item z p ∷ es) e = let z : ◌≡◌ {A = ℕ} 0 1 = cc in absurd (omega arith)
-  at_null (fault g ∷ es) e = let z : ◌≡◌ {A = ℕ} 0 1 = cc in absurd (omega arith)
-  at_null (hollow ∷ es) e = let z : ◌≡◌ {A = ℕ} 0 1 = cc in absurd (omega arith)
-
-  pub at_item : (es : List (Entry ℤ)) (place : ℕ) (z old : ℤ) → Ok (next.Element place) ≡ first es → z ≡ first_placed es old → (Ok (Some (Some (saturate_to_bits 63 (last +ℤ z)))) ≡ first_number (summed last es)) × (summed (saturate_to_bits 63 (last +ℤ z)) (others es) ≡ others (summed last es))
-  at_item [] place z old e f = let z : ◌≡◌ {A = ℕ} 0 1 = cc in absurd (omega arith)
-  at_item (null ∷ es) place z old e f = let z : ◌≡◌ {A = ℕ} 0 1 = cc in absurd (omega arith)
-  at_item (item y p ∷ es) place z old e f = (ap (λ (x : ℤ). Ok (Some (Some (saturate_to_bits 63 (last +ℤ x))))) f, ap (λ (x : ℤ). summed (saturate_to_bits 63 (last +ℤ x)) es) f)
-  at_item (fault g ∷ es) place z old e f = let z : ◌≡◌ {A = ℕ} 0 1 = cc in absurd (omega arith)
-  at_item (hollow ∷ es) place z old e f = let z : ◌≡◌ {A = ℕ} 0 1 = cc in absurd (omega arith)
+use Rattle.columns.specs.Deltas.{differences, sums, summed, codes_of, Fitting, DeltaBack}
 
 -- what saturates fits, and what fits does not saturate
 saturated_fits : (z : ℤ) → fits_i64 (saturate_to_bits 63 z) ≡ true
@@ -102,7 +63,3 @@ delta_back xs law d p at = record { back = back; same = λ some fit. back some �
   where
     back : any_element xs ≡ true → map plain (summed (pos 0) (entries reads_signed d p)) ≡ map Some (sums (pos 0) (differences (pos 0) xs))
     back some = summed_plain (pos 0) (entries reads_signed d p) (differences (pos 0) xs) ((law d p at).same (any_difference (pos 0) xs ∙ some) (differences (pos 0) xs) (differences_elements (pos 0) xs) refl)
-
-pub made_back : {X Y : Type 0} (r : Result X Y) (P Q : Type 0) → (P → Q) → IfOk r (λ _. P) → IfOk r (λ _. Q)
-made_back (Ok x) P Q f p = f p
-made_back (Err y) P Q f p = tt

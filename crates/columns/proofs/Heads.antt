@@ -1,21 +1,18 @@
 -- What is known of a header or an element that was read.
-use Rattle.std.proofs.Common.{◌≡◌, ℕ, ◌+◌, ◌^◌, ◌<◌, ◌≤◌, Bool, true, false, cond, ltb, List, length, drop, ℤ, Ok, Err, Result, sym, refl, ap, ◌∙◌, arith, length-drop}
-use Rattle.codec.specs.declared.parse.fault.NumberFault.{NumberFault}
+use Rattle.std.proofs.Common.{◌≡◌, ℕ, ◌+◌, ◌^◌, ◌<◌, ◌≤◌, Bool, true, false, cond, ltb, List, length, drop, ℤ, Ok, Err, Result, sym, refl, ap, arith, length-drop}
+use Rattle.std.specs.Result.{result_map_both}
 use Rattle.codec.specs.Leb128.{read_unsigned, read_signed}
-use Rattle.codec.specs.Elements.{Reading, Laws, used, filled, reads_unsigned, reads_signed}
+use Rattle.codec.specs.Elements.{Reading, Laws, used, reads_unsigned, reads_signed}
 use Rattle.codec.specs.Laws.Kinds.{unsigned_laws, signed_laws}
 use Rattle.columns.specs.declared.fault.ColumnFault.{ColumnFault}
-use Rattle.columns.specs.declared.rle.run.Run.{Run}
-use Rattle.columns.specs.declared.rle.run.Run.TheVariants.{Literal}
 use Rattle.columns.specs.declared.rle.run.Head.{Head}
 use Rattle.columns.specs.declared.rle.run.Shape.{Shape}
 use Rattle.columns.specs.declared.rle.run.Shape.TheVariants as shapes
-use Rattle.columns.specs.Runs.{Outcome, number, element, and_then, shape, shape_at, reads_shape, reads_nulls, shaped, header, Kind, nulls, same, literal, Lead, kind_of, plain, element_of, head_of, last_of}
-use Rattle.columns.specs.Steps.{taken}
+use Rattle.columns.specs.Runs.{Outcome, number, element, and_then, shape, shape_at, reads_shape, reads_nulls, shaped, header}
 
 -- two cases of a result are never the same
 pub not_both : {A F : Type 0} {a : A} {f : F} (r : Result A F) → r ≡ Ok a → r ≡ Err f → ⊥
-not_both r p q = let z : ◌≡◌ {A = ℕ} 0 1 = cc in omega arith
+not_both r p q = cc
 
 -- what was read, by its two parts
 pub ok_parts : {A F : Type 0} {a c : A} {n k : ℕ} → ◌≡◌ {A = Result (A × ℕ) F} (Ok (a, n)) (Ok (c, k)) → (a ≡ c) × (n ≡ k)
@@ -28,23 +25,17 @@ then_ok : {A B : Type 0} (o : Outcome A) (f : A → ℕ → Outcome B) (b : B) (
 then_ok (Ok p) f b n e = (p.0, p.1, refl, e)
 then_ok (Err c) f b n e = absurd (not_both (Err c) e refl)
 
+-- what was read, where only the cause is named anew
+pub read_ok : {A E F : Type 0} (f : E → F) (r : Result A E) (a : A) → result_map_both (λ x. x) f r ≡ Ok a → r ≡ Ok a
+read_ok f (Ok x) a e = let same : x ≡ a = cc in cc
+read_ok f (Err c) a e = cc
+
 -- a number at the front takes at least a byte, and no more than there are
-module _ {A : Type 0} where
-  number_ok : (r : Result (A × ℕ) NumberFault) (p : A × ℕ) → number r ≡ Ok p → r ≡ Ok p
-  number_ok (Ok q) p e = let same : q ≡ p = cc in cc
-  number_ok (Err c) p e = absurd (not_both (number (Err c)) e refl)
-
-  pub element_ok : (r : Reading A) (p : A × ℕ) → element r ≡ Ok p → r ≡ Ok p
-  element_ok (Ok q) p e = let same : q ≡ p = cc in cc
-  element_ok (Err c) p e = absurd (not_both (element (Err c)) e refl)
-
 signed_takes : (s : List ℕ) (z : ℤ) (k : ℕ) → number (read_signed s) ≡ Ok (z, k) → (1 ≤ k) × (k ≤ length s)
-unfolding reads_signed
-signed_takes s z k e = signed_laws.within s z k (ap (Rattle.codec.specs.Elements.numbered) (number_ok (read_signed s) (z, k) e))
+signed_takes s z k e = signed_laws.within s z k (ap (Rattle.codec.specs.Elements.numbered) (read_ok _ (read_signed s) (z, k) e))
 
 unsigned_takes : (s : List ℕ) (n k : ℕ) → number (read_unsigned s) ≡ Ok (n, k) → (1 ≤ k) × (k ≤ length s)
-unfolding reads_unsigned
-unsigned_takes s n k e = unsigned_laws.within s n k (ap (Rattle.codec.specs.Elements.numbered) (number_ok (read_unsigned s) (n, k) e))
+unsigned_takes s n k e = unsigned_laws.within s n k (ap (Rattle.codec.specs.Elements.numbered) (read_ok _ (read_unsigned s) (n, k) e))
 
 shape_takes : (s : List ℕ) (h : Shape) (k : ℕ) → reads_shape s ≡ Ok (h, k) → (0 < k) × (k ≤ length s)
 shape_takes s h k e = let p = then_ok (number (read_signed s)) _ h k e in go p.0 p.1 (shape p.0) p.2 p.3
@@ -62,7 +53,7 @@ nulls_take s n k e = let p = then_ok (number (read_unsigned s)) _ n k e in go p.
 
 module _ {M : Type 0} {Element : M → Type 0} {code : M → List ℕ} (reads : List ℕ → Reading M) (laws : Laws Element code reads) where
   pub element_takes : (s : List ℕ) (m : M) (k : ℕ) → element (reads s) ≡ Ok (m, k) → (1 ≤ k) × (k ≤ length s)
-  element_takes s m k e = laws.within s m k (element_ok (reads s) (m, k) e)
+  element_takes s m k e = laws.within s m k (read_ok _ (reads s) (m, k) e)
 
   -- the same of a reader that fills a place
   pub used_takes : (s : List ℕ) (n : ℕ) → Ok n ≡ used (reads s) → (1 ≤ n) × (n ≤ length s)
@@ -72,7 +63,7 @@ module _ {M : Type 0} {Element : M → Type 0} {code : M → List ℕ} (reads : 
       go (Ok p) h e = let y : n ≡ p.1 = cc in let w = laws.within s p.0 p.1 h in (omega arith, omega arith)
       go (Err c) h e = absurd (not_both (used {M = M} (Err c)) (sym e) refl)
 
-  shaped_takes : (s : List ℕ) (x : Shape) (j : ℕ) (h : Lead M) (n : ℕ) → 0 < j → j ≤ length s → shaped reads s x j ≡ Ok (h, n) → (0 < n) × (n ≤ length s)
+  shaped_takes : (s : List ℕ) (x : Shape) (j : ℕ) (h : Head M) (n : ℕ) → 0 < j → j ≤ length s → shaped reads s x j ≡ Ok (h, n) → (0 < n) × (n ≤ length s)
   shaped_takes s shapes.Nulls j h n a b e =
       let p = then_ok (reads_nulls (drop j s)) _ h n e in
       let y : j + p.1 ≡ n = (ok_parts p.3).1 in
@@ -83,34 +74,8 @@ module _ {M : Type 0} {Element : M → Type 0} {code : M → List ℕ} (reads : 
       omega (arith, element_takes (drop j s) p.0 p.1 p.2, length-drop j s)
   shaped_takes s (shapes.Literal m) j h n a b e = let y : j ≡ n = (ok_parts e).1 in omega arith
 
-  pub header_takes : (s : List ℕ) (h : Lead M) (n : ℕ) → header reads s ≡ Ok (h, n) → (0 < n) × (n ≤ length s)
+  pub header_takes : (s : List ℕ) (h : Head M) (n : ℕ) → header reads s ≡ Ok (h, n) → (0 < n) × (n ≤ length s)
   header_takes s h n e =
       let p = then_ok (reads_shape s) _ h n e in
       let q = shape_takes s p.0 p.1 p.2 in
       shaped_takes s p.0 p.1 h n q.0 q.1 p.3
-
--- what a reader that fills a place answered
-module _ {M : Type 0} where
-  pub used_ok : (r : Reading M) (n : ℕ) (new old : M) → Ok n ≡ used r → new ≡ filled r old → element r ≡ Ok (new, n)
-  used_ok (Ok p) n new old e f = let y : n ≡ p.1 = cc in ap (λ (m : M). Ok (m, p.1)) (sym f) ∙ ap (λ (k : ℕ). Ok (new, k)) (sym y)
-  used_ok (Err c) n new old e f = absurd (not_both (used {M = M} (Err c)) (sym e) refl)
-
-  -- an element of a literal run, at a place in the bytes
-  pub given_literal : (reads : List ℕ → Reading M) (d : List ℕ) (p n count : ℕ) (run : Run) (last m : M) → run ≡ Literal → element (reads (drop p d)) ≡ Ok (m, n) → taken reads d count p (kind_of run last) ≡ record { answer = Ok (Rattle.std.specs.declared.option.Option.TheVariants.Some (Rattle.std.specs.declared.option.Option.TheVariants.Some (m, p + n))); after = record { at = p + n; head = record { count = count; run = kind_of run last } } }
-  given_literal reads d p n count run last m s e = rw (s, e) refl
-
-  -- what a header's reader answered says which run the bytes start with
-  named : (k : Kind M) (new old : M) → new ≡ element_of k old → k ≡ kind_of (plain k) new
-  named nulls new old p = refl
-  named (same m) new old p = ap same (sym p)
-  named literal new old p = refl
-
-  pub head_ok : (o : Outcome (Lead M)) (h : Head) (new old : M) → Ok h ≡ head_of o → new ≡ last_of o old → o ≡ Ok (record { count = h.count; run = kind_of h.run new }, h.used)
-  head_ok (Ok p) h new old e q =
-      let r : h ≡ record { count = p.0.count; run = plain p.0.run; used = p.1 } = cc in
-      rw r (ap (λ (k : Kind M). Ok (record { count = p.0.count; run = k }, p.1)) (named p.0.run new old q))
-  head_ok (Err f) h new old e q = absurd (not_both (head_of {M = M} (Err f)) (sym e) refl)
-
-  pub head_err : (o : Outcome (Lead M)) (f : ColumnFault) → Err f ≡ head_of o → o ≡ Err f
-  head_err (Ok p) f e = absurd (not_both (head_of {M = M} (Ok p)) refl (sym e))
-  head_err (Err d) f e = cc

@@ -3,7 +3,8 @@ use Rattle.std.proofs.Common.{◌≡◌, ℕ, zero, suc, ◌+◌, ◌/◌, ◌%�
 use Rattle.std.specs.Str.{bytes_eq}
 use Rattle.std.proofs.lemmas.Slice.Eq.{bytes_eq-Decides}
 use Rattle.codec.specs.Leb128.{group, groups_by, groups, uleb, sleb}
-use Rattle.columns.specs.Cut.{Group, nulls, run, literal, entries_in, flat, Whole, Largest, groups as groups_of, codes, group_code, group_codes, packed, any_element, written}
+use Rattle.std.specs.List.{concat}
+use Rattle.columns.specs.Cut.{Group, nulls, run, literal, entries_in, flat, Whole, Largest, groups as groups_of, group_code, group_codes, packed, any_element, written}
 use Rattle.columns.specs.Law.{most}
 use Rattle.columns.proofs.Cuts.{groups_flat, groups_largest}
 
@@ -56,16 +57,16 @@ most_run : (n : ℕ) (c : List ℕ) → n + length c ≤ length c + most (replic
 most_run zero c = omega arith
 most_run (suc n) c = omega (arith, most_run n c)
 
-most_literal : (cs : List (List ℕ)) → most (map Some cs) ≡ length cs + length (codes cs)
+most_literal : (cs : List (List ℕ)) → most (map Some cs) ≡ length cs + length (concat cs)
 most_literal [] = omega arith
-most_literal (c ∷ cs) = omega (arith, most_literal cs, length-append c (codes cs))
+most_literal (c ∷ cs) = omega (arith, most_literal cs, length-append c (concat cs))
 
 group_most : (g : Group (List ℕ)) → Whole g → length (group_code g) ≤ most (entries_in g)
 group_most (nulls zero) w = absurd (omega arith)
 group_most (nulls (suc n)) w = omega (arith, length-append (sleb (pos 0)) (uleb (suc n)), zero_size, number_size n, most_nulls (suc n))
 group_most (run zero c) w = absurd (omega arith)
 group_most (run (suc n) c) w = omega (arith, length-append (sleb (pos (suc n))) c, plus_size n, most_run n c)
-group_most (literal c cs) w = omega (arith, length-append (sleb (negsuc (length cs))) (codes (c ∷ cs)), minus_size (length cs), most_literal (c ∷ cs))
+group_most (literal c cs) w = omega (arith, length-append (sleb (negsuc (length cs))) (concat (c ∷ cs)), minus_size (length cs), most_literal (c ∷ cs))
 
 cut_most : (gs : List (Group (List ℕ))) → Largest gs → length (group_codes gs) ≤ most (flat gs)
 cut_most [] l = omega arith

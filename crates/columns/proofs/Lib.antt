@@ -1,5 +1,4 @@
 pub mod Heads
-pub mod Settles
 pub mod Columns
 pub mod Cuts
 pub mod Parts
@@ -11,5 +10,5 @@ pub mod Places
 pub mod Same
 pub mod Puts
 pub mod Deltas
-pub mod Firsts
+pub mod Headers
 pub mod Stands

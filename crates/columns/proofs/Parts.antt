@@ -1,11 +1,12 @@
 -- Which bytes a group takes off what is still to be written.
-use Rattle.std.proofs.Common.{◌≡◌, ℕ, zero, suc, ◌+◌, ◌-◌, ◌<◌, ◌≤◌, List, [], ◌∷◌, ◌++◌, map, length, take, replicate, negsuc, Some, None, Option, sym, refl, ap, ◌∙◌, add-one, arith}
+use Rattle.std.proofs.Common.{◌≡◌, ℕ, zero, suc, ◌+◌, ◌-◌, ◌<◌, ◌≤◌, List, [], ◌∷◌, ◌++◌, map, length, take, replicate, negsuc, Some, None, Option, sym, refl, ap, ◌∙◌, append_assoc, arith}
 use Rattle.std.specs.Str.{bytes_eq}
 use Rattle.std.proofs.lemmas.Slice.Eq.{bytes_eq-Decides}
-use Rattle.std.proofs.lemmas.List.{take_at, length-map}
+use Rattle.std.proofs.lemmas.List.{append-nil, take_at, length-map, replicate_more}
 use Rattle.std.proofs.lemmas.Bool.{cond-true, cond-false}
 use Rattle.codec.specs.Leb128.{sleb}
-use Rattle.columns.specs.Cut.{Group, nulls, run, literal, entries_in, Apart, last, Whole, Before, groups, codes, group_code, group_codes, packed, any_element, written}
+use Rattle.std.specs.List.{concat}
+use Rattle.columns.specs.Cut.{Group, nulls, run, literal, entries_in, Apart, last, Whole, Before, groups, group_code, group_codes, packed, any_element, written}
 use Rattle.columns.specs.Spelled.{spelled}
 use Rattle.columns.proofs.Cuts.{closes, none_first, some_first, twice_first}
 
@@ -13,11 +14,7 @@ abbrev Codes : Type 0
 Codes = List (Option (List ℕ))
 
 pub shifted : (n : ℕ) (a : Option (List ℕ)) (xs : Codes) → replicate n a ++ a ∷ xs ≡ replicate (n + 1) a ++ xs
-shifted n a xs = go n ∙ ap (λ (k : ℕ). replicate k a ++ xs) (sym (add-one n))
-  where
-    go : (n : ℕ) → replicate n a ++ a ∷ xs ≡ replicate (suc n) a ++ xs
-    go zero = refl
-    go (suc n) = ap (λ (l : Codes). a ∷ l) (go n)
+shifted n a xs = sym (append_assoc (replicate n a) (a ∷ []) xs) ∙ ap (λ (l : Codes). l ++ xs) (replicate_more n a)
 
 pub any_nulls : (n : ℕ) (xs : Codes) → any_element (replicate n None ++ xs) ≡ any_element xs
 any_nulls zero xs = refl
@@ -37,7 +34,7 @@ module _ {M : Type 0} where
   last_push m (y ∷ ms) x = last_push y ms x
 
 -- the bytes of a literal run, by the entries from where it began
-spelled_codes : (cs : List (List ℕ)) → spelled (map Some cs) ≡ codes cs
+spelled_codes : (cs : List (List ℕ)) → spelled (map Some cs) ≡ concat cs
 spelled_codes [] = refl
 spelled_codes (c ∷ cs) = ap (λ (l : List ℕ). c ++ l) (spelled_codes cs)
 
@@ -70,17 +67,23 @@ run_none n v xs w = closed (run n v) (None ∷ xs) w (none_first bytes_eq bytes_
 pub run_some : (n : ℕ) (v x : List ℕ) (xs : Codes) → 2 ≤ n → (v ≡ x → ⊥) → packed (replicate n (Some v) ++ Some x ∷ xs) ≡ group_code (run n v) ++ packed (Some x ∷ xs)
 run_some n v x xs w ne = closed (run n v) (Some x ∷ xs) w (some_first bytes_eq bytes_eq-Decides (Before (run n v)) x (λ _ _. ne) (λ _ _. ne) (groups bytes_eq xs))
 
-pub literal_none : (m : List ℕ) (ms : List (List ℕ)) (xs : Codes) → Apart m ms → packed ((Some m ∷ map Some ms) ++ None ∷ xs) ≡ group_code (literal m ms) ++ packed (None ∷ xs)
+literal_none : (m : List ℕ) (ms : List (List ℕ)) (xs : Codes) → Apart m ms → packed ((Some m ∷ map Some ms) ++ None ∷ xs) ≡ group_code (literal m ms) ++ packed (None ∷ xs)
 literal_none m ms xs w = closed (literal m ms) (None ∷ xs) w (none_first bytes_eq bytes_eq-Decides (Before (literal m ms)) (λ _ _. tt) (groups bytes_eq xs))
 
 pub literal_twice : (m : List ℕ) (ms : List (List ℕ)) (x : List ℕ) (xs : Codes) → Apart m ms → (last m ms ≡ x → ⊥) → packed ((Some m ∷ map Some ms) ++ Some x ∷ Some x ∷ xs) ≡ group_code (literal m ms) ++ packed (Some x ∷ Some x ∷ xs)
 literal_twice m ms x xs w ne = closed (literal m ms) (Some x ∷ Some x ∷ xs) w (twice_first bytes_eq bytes_eq-Decides (Before (literal m ms)) x (λ _ _. ne) (groups bytes_eq xs))
 
--- one more entry of a part
-pub each_step : (xs ys : Codes) (x : Option (List ℕ)) (n : ℕ) → 0 < n → xs ≡ x ∷ ys → spelled (take n xs) ≡ spelled (x ∷ take (n - 1) ys)
-each_step xs ys x zero l e = absurd (omega arith)
-each_step xs ys x (suc n) l e = let p : suc n - 1 ≡ n = omega arith in ap (λ (t : Codes). spelled (take (suc n) t)) e ∙ ap (λ (k : ℕ). spelled (x ∷ take k ys)) (sym p)
+-- a literal run in front of a null, and at the end
+pub part_none : (all xs : Codes) (count : ℕ) (c : List ℕ) (cs : List (List ℕ)) → count ≡ suc (length cs) → all ≡ (Some c ∷ map Some cs) ++ None ∷ xs → Apart c cs → packed all ≡ (sleb (negsuc (count - 1)) ++ spelled (take count all)) ++ packed (None ∷ xs)
+part_none all xs count c cs n e w = ap packed e ∙ literal_none c cs xs w ∙ ap (λ (b : List ℕ). b ++ packed (None ∷ xs)) (sym (part_code all (None ∷ xs) count c cs n e))
 
-pub none_step : (xs : Codes) (n : ℕ) → xs ≡ [] → spelled (take n xs) ≡ []
-none_step xs zero e = refl
-none_step xs (suc n) e = ap (λ (t : Codes). spelled (take (suc n) t)) e
+pub part_end : (all : Codes) (count : ℕ) (c : List ℕ) (cs : List (List ℕ)) → count ≡ suc (length cs) → all ≡ (Some c ∷ map Some cs) ++ [] → Apart c cs → packed all ≡ sleb (negsuc (count - 1)) ++ spelled (take count all)
+part_end all count c cs n e w = ap packed e ∙ at_end (literal c cs) w ∙ append-nil (group_code (literal c cs)) ∙ sym (part_code all [] count c cs n e)
+
+-- one more entry of a part, after n of it: x is its code
+pub each_step : {X : Type 0} (code : X → Option (List ℕ)) {xs ys : List X} {entry : X} {x : Option (List ℕ)} (count n : ℕ) → n < count → xs ≡ entry ∷ ys → x ≡ code entry → spelled (take (count - n) (map code xs)) ≡ spelled (x ∷ take (count - (n + 1)) (map code ys))
+each_step {X} code {xs} {ys} {entry} count n l e c =
+    let more : count - n ≡ suc (count - (n + 1)) = omega arith in
+    ap (λ (t : List X). spelled (take (count - n) (map code t))) e
+    ∙ ap (λ (k : ℕ). spelled (take k (code entry ∷ map code ys))) more
+    ∙ ap (λ (y : Option (List ℕ)). spelled (y ∷ take (count - (n + 1)) (map code ys))) (sym c)

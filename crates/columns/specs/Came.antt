@@ -1,20 +1,11 @@
--- An entry that comes from a list to be written, by the code of its element.
-use Rattle.std.specs.Prelude.{ℕ, List, [], ◌∷◌, Some, None, Option}
-use Rattle.columns.specs.declared.rle.source.Arrival.{Arrival}
-use Rattle.columns.specs.declared.rle.source.Arrival.TheVariants.{End, Null, Element}
+-- What comes from a list to be written.
+use Rattle.std.specs.Prelude.{ℕ, List, [], ◌∷◌, map, Some, None, Option}
 
--- the entries before a step, by its answer, the code of the element in the place, and the entries after it
-abbrev pub stepped : Arrival → List ℕ → List (Option (List ℕ)) → List (Option (List ℕ))
-stepped End code after = []
-stepped Null code after = None ∷ after
-stepped Element code after = Some code ∷ after
+-- a list before a step, by the step's answer and the list after it
+abbrev pub came : {T : Type 0} → Option T → List T → List T
+came None after = []
+came (Some entry) after = entry ∷ after
 
--- the same where the element is handed out
-module _ {T M : Type 0} (code : M → List ℕ) (means : T → M) where
-  abbrev pub arrived : Option T → Option (List ℕ)
-  arrived None = None
-  arrived (Some x) = Some (code (means x))
-
-  abbrev pub came : Option (Option T) → List (Option (List ℕ)) → List (Option (List ℕ))
-  came None after = []
-  came (Some a) after = arrived a ∷ after
+-- the entries still to come at a place, by the codes of their elements
+abbrev pub coming : {T C : Type 0} → (T → Option (List ℕ)) → (C → List T) → C → List (Option (List ℕ))
+coming code list at = map code (list at)

@@ -1,5 +1,6 @@
 -- Faults with the path to their column: how each layer puts its name behind the names below it.
-use Rattle.std.specs.Prelude.{ℕ, List, Some, None, Ok, Err, codes, Option, Result}
+use Rattle.std.specs.Prelude.{ℕ, List, Some, None, Ok, Err, codes, Option, option_map, Result}
+use Rattle.std.specs.Result.{result_map_both}
 use Rattle.columns.specs.declared.fault.ColumnFault.{ColumnFault}
 use Rattle.columns.specs.declared.col_error.ColumnName.{ColumnName}
 use Rattle.columns.specs.declared.col_error.ColumnName.TheVariants as names
@@ -34,8 +35,7 @@ error_number (InvalidValue fault) = column_number fault
 -- What is read from a column, where a value may be missing and where it must be.
 module _ {V E : Type 0} (under : E → ColumnName → DecodeColumnError) (name : ColumnName) where
   abbrev pub maybe_in_col : Result (Option V) E → Result (Option V) DecodeColumnError
-  maybe_in_col (Ok v) = Ok v
-  maybe_in_col (Err e) = Err (under e name)
+  maybe_in_col r = result_map_both (λ v. v) (λ e. under e name) r
 
   abbrev pub in_col : Result (Option V) E → Result V DecodeColumnError
   in_col (Ok (Some v)) = Ok v
@@ -44,13 +44,10 @@ module _ {V E : Type 0} (under : E → ColumnName → DecodeColumnError) (name :
 
 -- an answer by what its value means
 abbrev pub seen_option : {A B E : Type 0} → (A → B) → Result (Option A) E → Result (Option B) E
-seen_option seen (Ok (Some a)) = Ok (Some (seen a))
-seen_option seen (Ok None) = Ok None
-seen_option seen (Err e) = Err e
+seen_option seen r = result_map_both (option_map seen) (λ e. e) r
 
 abbrev pub seen_value : {A B E : Type 0} → (A → B) → Result A E → Result B E
-seen_value seen (Ok a) = Ok (seen a)
-seen_value seen (Err e) = Err e
+seen_value seen r = result_map_both seen (λ e. e) r
 
 -- a name as a path is written
 abbrev pub name_word : ColumnName → List ℕ

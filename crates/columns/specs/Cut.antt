@@ -3,7 +3,9 @@
 -- A run of n ≥ 2 equal elements is the signed number n and one code. A literal run of n elements with no two equal
 -- neighbours is -n and n codes; an element that repeats leaves the literal run and opens a run. A null run is the
 -- signed number 0 and the unsigned length. Nulls alone take no bytes.
-use Rattle.std.specs.Prelude.{◌≡◌, ℕ, suc, ◌≤◌, Bool, true, false, cond, List, [], ◌∷◌, ◌++◌, map, length, replicate, pos, negsuc, Some, None, Option, ◌≢◌}
+use Rattle.std.specs.Prelude.{◌≡◌, ℕ, suc, ◌≤◌, Bool, cond, List, [], ◌∷◌, ◌++◌, map, length, replicate, pos, negsuc, Some, None, Option, ◌≢◌}
+use Rattle.std.specs.List.{concat, flat_map, list_any}
+use Rattle.std.specs.Option.{is_some}
 use Rattle.std.specs.Str.{bytes_eq}
 use Rattle.codec.specs.Leb128.{uleb, sleb}
 
@@ -21,8 +23,7 @@ module _ {M : Type 0} where
   entries_in (literal m ms) = Some m ∷ map Some ms
 
   abbrev pub flat : List (Group M) → List (Option M)
-  flat [] = []
-  flat (g ∷ gs) = entries_in g ++ flat gs
+  flat gs = flat_map entries_in gs
 
   -- no two equal neighbours
   abbrev pub Apart : M → List M → Type 0
@@ -59,9 +60,7 @@ module _ {M : Type 0} where
 
   -- whether there is an element, or nulls alone
   abbrev pub any_element : List (Option M) → Bool
-  any_element [] = false
-  any_element (None ∷ xs) = any_element xs
-  any_element (Some m ∷ xs) = true
+  any_element xs = list_any is_some xs
 
   -- a literal run, if anything is left of it
   abbrev pub literal_of : List M → List (Group M) → List (Group M)
@@ -84,19 +83,14 @@ module _ {M : Type 0} (equal : M → M → Bool) where
   groups [] = []
   groups (x ∷ xs) = joined x (groups xs)
 
-abbrev pub codes : List (List ℕ) → List ℕ
-codes [] = []
-codes (c ∷ cs) = c ++ codes cs
-
 -- a group's bytes, by the codes of its elements
 abbrev pub group_code : Group (List ℕ) → List ℕ
 group_code (nulls n) = sleb (pos 0) ++ uleb n
 group_code (run n c) = sleb (pos n) ++ c
-group_code (literal c cs) = sleb (negsuc (length cs)) ++ codes (c ∷ cs)
+group_code (literal c cs) = sleb (negsuc (length cs)) ++ concat (c ∷ cs)
 
 abbrev pub group_codes : List (Group (List ℕ)) → List ℕ
-group_codes [] = []
-group_codes (g ∷ gs) = group_code g ++ group_codes gs
+group_codes gs = flat_map group_code gs
 
 abbrev pub packed : List (Option (List ℕ)) → List ℕ
 packed xs = group_codes (groups bytes_eq xs)

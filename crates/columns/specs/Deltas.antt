@@ -1,21 +1,17 @@
 -- Delta columns: each number by its difference from the last one, starting at 0. Nulls leave the last number alone.
 -- Differences and sums saturate at 64 bits.
-use Rattle.std.specs.Prelude.{◌≡◌, ℕ, suc, ◌^◌, ◌<◌, true, false, List, [], ◌∷◌, map, length, drop, ℤ, pos, ◌+ℤ◌, ◌-ℤ◌, Some, None, Ok, Err, Option, Result, refl}
-use Rattle.std.proofs.Common.{sym, ap, subst, ◌∙◌}
-use Rattle.std.proofs.lemmas.List.{length-map}
+use Rattle.std.specs.Prelude.{◌≡◌, ℕ, suc, ◌^◌, ◌<◌, true, false, List, [], ◌∷◌, map, length, drop, ℤ, pos, ◌+ℤ◌, ◌-ℤ◌, Some, None, Option, Result, refl}
+use Rattle.std.proofs.Common.{sym, ap, subst}
+use Rattle.std.specs.Option.{option_map}
 use Rattle.std.specs.Int.{saturate_to_bits}
+use Rattle.std.specs.Result.{result_map_both}
 use Rattle.codec.specs.Leb128.{sleb, fits_i64}
 use Rattle.codec.specs.Elements.{reads_signed}
 use Rattle.columns.specs.declared.fault.ColumnFault.{ColumnFault}
 use Rattle.columns.specs.declared.delta.DeltaDecoder.{DeltaDecoder}
-use Rattle.columns.specs.Column.{Entry, null, item, fault, hollow, entries, remains}
+use Rattle.columns.specs.Column.{Entry, null, item, fault, hollow, first, entries, remains}
 use Rattle.columns.specs.Cut.{any_element, written}
-use Rattle.columns.specs.Law.{plain, coded}
-
--- a list before a step, by the step's answer and the list after it
-abbrev pub up_next : {A : Type 0} → Option A → List A → List A
-up_next None after = []
-up_next (Some a) after = a ∷ after
+use Rattle.columns.specs.Law.{plain}
 
 -- the differences of numbers, from the last one
 abbrev pub differences : ℤ → List (Option ℤ) → List (Option ℤ)
@@ -39,18 +35,14 @@ summed last (hollow ∷ es) = hollow ∷ summed last es
 
 -- What a reader answers.
 abbrev pub first_number : List (Entry ℤ) → Result (Option (Option ℤ)) ColumnFault
-first_number [] = Ok None
-first_number (null ∷ _) = Ok (Some None)
-first_number (item z p ∷ _) = Ok (Some (Some z))
-first_number (fault f ∷ _) = Err f
-first_number (hollow ∷ _) = Ok None
+first_number es = result_map_both (option_map (option_map (λ x. x.element))) (λ f. f) (first es)
 
 -- What is left of a reader's column.
 abbrev pub deltas_left : DeltaDecoder → List (Entry ℤ)
 deltas_left r = summed r.absolute_val (remains reads_signed (λ x. x.value) r.rle)
 
 abbrev pub codes_of : List (Option ℤ) → List (Option (List ℕ))
-codes_of xs = map (coded sleb) xs
+codes_of xs = map (option_map sleb) xs
 
 -- The bytes of a delta column.
 abbrev pub delta_column : List (Option ℤ) → List ℕ
@@ -80,5 +72,5 @@ differences_length last (None ∷ xs) = ap suc (differences_length last xs)
 differences_length last (Some z ∷ xs) = ap suc (differences_length z xs)
 
 -- the differences are as few as the numbers
-pub codes_few : (last : ℤ) (xs : List (Option ℤ)) → length xs < 2 ^ 63 → length (codes_of (differences last xs)) < 2 ^ 63
-codes_few last xs few = subst (λ (n : ℕ). n < 2 ^ 63) (sym (length-map (differences last xs) (coded sleb) ∙ differences_length last xs)) few
+pub differences_few : (last : ℤ) (xs : List (Option ℤ)) → length xs < 2 ^ 63 → length (differences last xs) < 2 ^ 63
+differences_few last xs few = subst (λ (n : ℕ). n < 2 ^ 63) (sym (differences_length last xs)) few

@@ -1,5 +1,6 @@
 -- What a run column that was written is: how its list is cut, what is read from it, and how long it is.
 use Rattle.std.specs.Prelude.{◌≡◌, ℕ, ◌+◌, true, false, List, [], ◌∷◌, map, length, drop, Some, None, Option}
+use Rattle.std.specs.Option.{option_map}
 use Rattle.std.specs.Str.{bytes_eq}
 use Rattle.codec.specs.Elements.{Reading}
 use Rattle.columns.specs.Column.{Entry, null, item, fault, hollow, entries}
@@ -18,10 +19,6 @@ module _ {M : Type 0} where
   plain (item m p) = Some (Some m)
   plain (fault f) = None
   plain hollow = None
-
-  abbrev pub coded : (M → List ℕ) → Option M → Option (List ℕ)
-  coded code None = None
-  coded code (Some m) = Some (code m)
 
   -- the same, by the code of its element
   abbrev pub spelt : (M → List ℕ) → Entry M → Option (Option (List ℕ))
@@ -49,7 +46,7 @@ Every P (hollow ∷ es) = Every P es
 -- themselves. If there is none, the column has no bytes, and reading gives the end.
 pub record ColumnAt {M : Type 0} (Element : M → Type 0) (code : M → List ℕ) (reads : List ℕ → Reading M) (xs : List (Option (List ℕ))) (d : List ℕ) (p : ℕ) : Type 0 where
   pub back : any_element xs ≡ true → map (spelt code) (entries reads d p) ≡ map Some xs
-  pub same : any_element xs ≡ true → (ms : List (Option M)) → All Element ms → map (coded code) ms ≡ xs → map plain (entries reads d p) ≡ map Some ms
+  pub same : any_element xs ≡ true → (ms : List (Option M)) → All Element ms → map (option_map code) ms ≡ xs → map plain (entries reads d p) ≡ map Some ms
   pub none : any_element xs ≡ false → (drop p d ≡ []) × (entries reads d p ≡ [])
 
 -- What is written for a list is such a column, wherever it stands at the end of data.

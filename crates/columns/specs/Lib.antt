@@ -1,14 +1,12 @@
 pub mod Ranges
 pub mod Faults
 pub mod Runs
-pub mod Steps
 pub mod Column
 pub mod Came
 pub mod Cut
 pub mod Law
 pub mod Spelled
 pub mod Machine
-pub mod Lists
 pub mod Deltas
 pub mod Raws
 pub mod ColErrors

@@ -2,7 +2,7 @@
 use Rattle.std.specs.Prelude.{◌≡◌, ℕ, suc, ◌+◌, ◌^◌, ◌<◌, ◌≤◌, List, [], ◌∷◌, ◌++◌, map, length, drop, replicate, Some, None, Option}
 use Rattle.columns.specs.declared.rle.state.RleState.{RleState}
 use Rattle.columns.specs.declared.rle.state.RleState.TheVariants.{Empty, InitialNullRun, NullRun, LoneVal, Run, LiteralRun}
-use Rattle.columns.specs.Came.{arrived}
+use Rattle.std.specs.Option.{option_map}
 use Rattle.columns.specs.Cut.{Apart, packed, written}
 
 module _ {T M C : Type 0} (code : M → List ℕ) (means : T → M) (list : C → List (Option (List ℕ))) where
@@ -34,5 +34,5 @@ module _ {T M C : Type 0} (code : M → List ℕ) (means : T → M) (list : C �
 
   -- a turn of the machine at a place: what arrives is the first of its entries
   pub record Turn (at : C) (was : RleState T C) (arrival : Option T) : Type 0 where
-    pub comes : list at ≡ arrived code means arrival ∷ drop 1 (list at)
+    pub comes : list at ≡ option_map code (option_map means arrival) ∷ drop 1 (list at)
     pub sound : Sound (list at) was

@@ -1,12 +1,12 @@
 -- Ranges by their two numbers, and why one is refused.
 use Rattle.std.specs.Prelude.{ℕ, cond, Ok, Err, Result, nat_le}
+use Rattle.std.specs.Result.{result_map_both}
 use Rattle.columns.specs.declared.range.Range.{Range}
 use Rattle.columns.specs.declared.range.RangeRefused.{RangeRefused}
 use Rattle.columns.specs.declared.range.RangeRefused.TheVariants.{EndBeforeStart, EndBeyondData}
 
 abbrev pub span : Result Range RangeRefused → Result (ℕ × ℕ) RangeRefused
-span (Ok r) = Ok (r.start, r.end)
-span (Err e) = Err e
+span r = result_map_both (λ x. (x.start, x.end)) (λ e. e) r
 
 -- the range of two numbers
 abbrev pub ranged : ℕ → ℕ → Result (ℕ × ℕ) RangeRefused

@@ -3,6 +3,7 @@
 -- A header is a signed number n. Above 0 it stands before one code, and the run is n times that element. Below 0 it
 -- stands before -n codes. 0 stands before an unsigned number, and the run is so many nulls.
 use Rattle.std.specs.Prelude.{ℕ, zero, suc, ◌+◌, ◌-◌, ◌^◌, cond, List, drop, ℤ, pos, negsuc, Ok, Err, Result, nat_lt}
+use Rattle.std.specs.Result.{result_map_both}
 use Rattle.codec.specs.declared.parse.fault.NumberFault.{NumberFault}
 use Rattle.codec.specs.Leb128.{read_unsigned, read_signed}
 use Rattle.codec.specs.Elements.{Reading}
@@ -21,12 +22,10 @@ Outcome A = Result (A × ℕ) ColumnFault
 
 -- a number or an element at the front
 abbrev pub number : {A : Type 0} → Result (A × ℕ) NumberFault → Outcome A
-number (Ok p) = Ok p
-number (Err fault) = Err (number_in fault)
+number r = result_map_both (λ p. p) number_in r
 
 abbrev pub element : {A : Type 0} → Reading A → Outcome A
-element (Ok p) = Ok p
-element (Err fault) = Err (Element fault)
+element r = result_map_both (λ p. p) Element r
 
 -- and what stands behind it
 abbrev pub and_then : {A B : Type 0} → Outcome A → (A → ℕ → Outcome B) → Outcome B
@@ -50,50 +49,25 @@ reads_shape bytes = and_then (number (read_signed bytes)) (λ z used. shape_at u
 abbrev pub reads_nulls : List ℕ → Outcome ℕ
 reads_nulls bytes = and_then (number (read_unsigned bytes)) (λ n used. cond (nat_lt n (2 ^ 63)) (Ok (n, used)) (Err RunTooLong))
 
--- what a run holds: nulls, one element, or elements that are written out
-pub data Kind (M : Type 0) : Type 0 where
-  nulls : Kind M
-  same : M → Kind M
-  literal : Kind M
+-- what was read, and a run, by what its elements mean
+abbrev pub read_by : {T M : Type 0} → (T → M) → Outcome T → Outcome M
+read_by means r = result_map_both (λ p. (means p.0, p.1)) (λ fault. fault) r
 
--- a run: how long it is, and what it holds
-pub record Lead (M : Type 0) : Type 0 where
-  pub count : ℕ
-  pub run : Kind M
+abbrev pub run_by : {T M : Type 0} → (T → M) → Run T → Run M
+run_by means Null = Null
+run_by means (Same x) = Same (means x)
+run_by means Literal = Literal
 
-module _ {M : Type 0} where
-  -- a kind by its plain name and the element at hand, and back
-  abbrev pub kind_of : Run → M → Kind M
-  kind_of Null m = nulls
-  kind_of Same m = same m
-  kind_of Literal m = literal
-
-  abbrev pub plain : Kind M → Run
-  plain nulls = Null
-  plain (same m) = Same
-  plain literal = Literal
-
-  abbrev pub element_of : Kind M → M → M
-  element_of nulls old = old
-  element_of (same m) old = m
-  element_of literal old = old
-
-  -- what the reader of a header answers, and what its place then holds
-  abbrev pub head_of : Outcome (Lead M) → Result Head ColumnFault
-  head_of (Ok p) = Ok (record { count = p.0.count; run = plain p.0.run; used = p.1 })
-  head_of (Err fault) = Err fault
-
-  abbrev pub last_of : Outcome (Lead M) → M → M
-  last_of (Ok p) old = element_of p.0.run old
-  last_of (Err fault) old = old
+abbrev pub head_by : {T M : Type 0} → (T → M) → Head T → Head M
+head_by means h = record { count = h.count; run = run_by means h.run }
 
 module _ {M : Type 0} (reads : List ℕ → Reading M) where
   -- a run of that shape, whose element or length stands at k
-  abbrev pub shaped : List ℕ → Shape → ℕ → Outcome (Lead M)
-  shaped bytes shapes.Nulls k = and_then (reads_nulls (drop k bytes)) (λ n j. Ok (record { count = n; run = nulls }, k + j))
-  shaped bytes (shapes.Same n) k = and_then (element (reads (drop k bytes))) (λ m j. Ok (record { count = n; run = same m }, k + j))
-  shaped bytes (shapes.Literal n) k = Ok (record { count = n; run = literal }, k)
+  abbrev pub shaped : List ℕ → Shape → ℕ → Outcome (Head M)
+  shaped bytes shapes.Nulls k = and_then (reads_nulls (drop k bytes)) (λ n j. Ok (record { count = n; run = Null }, k + j))
+  shaped bytes (shapes.Same n) k = and_then (element (reads (drop k bytes))) (λ m j. Ok (record { count = n; run = Same m }, k + j))
+  shaped bytes (shapes.Literal n) k = Ok (record { count = n; run = Literal }, k)
 
   -- the run that the bytes start with: its header, which has the element of a run
-  abbrev pub header : List ℕ → Outcome (Lead M)
+  abbrev pub header : List ℕ → Outcome (Head M)
   header bytes = and_then (reads_shape bytes) (shaped bytes)

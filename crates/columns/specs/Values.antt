@@ -1,25 +1,19 @@
 -- The values of a column, entry by entry: a null and the end are nothing.
-use Rattle.std.specs.Prelude.{◌≡◌, ℕ, ◌-◌, ◌≤◌, List, [], ◌∷◌, length, take, drop, Some, None, Ok, Err, Option, Result}
+use Rattle.std.specs.Prelude.{◌≡◌, ℕ, ◌-◌, ◌≤◌, List, length, take, drop, Option, option_map, Result}
+use Rattle.std.specs.Option.{option_flatten}
+use Rattle.std.specs.Result.{result_map_both}
 use Rattle.codec.specs.Elements.{reads_text}
 use Rattle.columns.specs.declared.fault.ColumnFault.{ColumnFault}
 use Rattle.columns.specs.declared.column_decoder.columns.TextPart.{TextPart}
-use Rattle.columns.specs.Column.{Entry, null, item, fault, hollow, entries}
+use Rattle.columns.specs.Column.{Entry, first, entries}
 use Rattle.columns.specs.Law.{Every}
 
 abbrev pub value : {M : Type 0} → List (Entry M) → Result (Option M) ColumnFault
-value [] = Ok None
-value (null ∷ _) = Ok None
-value (item m p ∷ _) = Ok (Some m)
-value (fault f ∷ _) = Err f
-value (hollow ∷ _) = Ok None
+value es = result_map_both (λ entry. option_map (λ x. x.element) (option_flatten entry)) (λ f. f) (first es)
 
 -- a text with the place where it stands: right before the end of its code
 abbrev pub text_value : List (Entry (List ℕ)) → Result (Option (List ℕ × ℕ)) ColumnFault
-text_value [] = Ok None
-text_value (null ∷ _) = Ok None
-text_value (item text end ∷ _) = Ok (Some (text, end - length text))
-text_value (fault f ∷ _) = Err f
-text_value (hollow ∷ _) = Ok None
+text_value es = result_map_both (λ entry. option_map (λ x. (x.element, x.end - length x.element)) (option_flatten entry)) (λ f. f) (first es)
 
 abbrev pub text_seen : TextPart → List ℕ × ℕ
 text_seen t = (t.text.now, t.place)

@@ -1,8 +1,11 @@
 // A fault with the path to its column.
-ghost use Rattle.std.specs.Prelude.{◌≡◌};
+ghost use Rattle.std.specs.Prelude.{◌≡◌, Some};
+ghost use Rattle.std.specs.Fmt.{styled_text};
 ghost use Rattle.columns.specs.ColErrors.{in_column, error_number, name_word};
 
 use crate::fault::ColumnFault;
+use codec::refusal::Refusal;
+use std::fmt;
 
 // The columns of a change and their groups, by the names that a path has for them.
 #[derive(Clone, Copy, Debug, PartialEq, Eq)]
@@ -58,10 +61,12 @@ impl DecodeColumnError {
             error: self.error,
         }
     }
+}
 
-    pub fn number(self) -> u8
-        ensures { result ≡ error_number self.error }
-    {
+impl Refusal for DecodeColumnError {
+    ghost number_of = { λ e. error_number e.error };
+
+    fn number(self) -> u8 {
         match self.error {
             DecodeColErrorKind::UnexpectedNull => 16,
             DecodeColErrorKind::InvalidValue(fault) => fault.number(),
@@ -89,5 +94,15 @@ impl ColumnName {
             ColumnName::Expand => "expand",
             ColumnName::MarkName => "mark_name",
         }
+    }
+}
+
+impl fmt::Display for ColumnName {
+    ghost output = { λ name. Some (name_word name) };
+
+    ghost styled_output = { λ name s. Some (styled_text s (name_word name)) };
+
+    fn fmt<W: fmt::Write>(&self, f: &mut fmt::Formatter<W>) -> fmt::Result {
+        f.pad(self.word())
     }
 }

@@ -71,10 +71,9 @@ pub fn maybe_next_in_col<D: ColumnDecoder>(
     ensures answer { seen_option D.ColumnDecoder.seen result ≡ maybe_in_col D.Error.IntoColError.under name (D.ColumnDecoder.tells (D.ColumnDecoder.left decoder.old)) }
     ensures after { D.ColumnDecoder.left decoder.new ≡ D.ColumnDecoder.leaves (D.ColumnDecoder.left decoder.old) }
 {
-    match decoder.maybe_next() {
-        Ok(value) => Ok(value),
-        Err(fault) => Err(fault.into_col_error(name)),
-    }
+    decoder
+        .maybe_next()
+        .map_err(|fault| fault.into_col_error(name))
 }
 
 // The next value, where one must be.
@@ -85,11 +84,8 @@ pub fn next_in_col<D: ColumnDecoder>(
     ensures answer { seen_value D.ColumnDecoder.seen result ≡ in_col D.Error.IntoColError.under name (D.ColumnDecoder.tells (D.ColumnDecoder.left decoder.old)) }
     ensures after { D.ColumnDecoder.left decoder.new ≡ D.ColumnDecoder.leaves (D.ColumnDecoder.left decoder.old) }
 {
-    match maybe_next_in_col(decoder, name)? {
-        Some(value) => Ok(value),
-        None => Err(DecodeColumnError {
-            path: Path::Alone(name),
-            error: DecodeColErrorKind::UnexpectedNull,
-        }),
-    }
+    maybe_next_in_col(decoder, name)?.ok_or(DecodeColumnError {
+        path: Path::Alone(name),
+        error: DecodeColErrorKind::UnexpectedNull,
+    })
 }

@@ -1,10 +1,13 @@
 // Why the bytes of a column are refused.
-ghost use Rattle.std.specs.Prelude.{◌≡◌};
+ghost use Rattle.std.specs.Prelude.{◌≡◌, Some};
+ghost use Rattle.std.specs.Fmt.{styled_text};
 ghost use Rattle.columns.specs.Faults.{number_in, column_number, column_cause};
 ghost use Rattle.columns.specs.declared.fault.ColumnFault.TheVariants.{Element};
 
 use codec::element::fault::ElementFault;
 use codec::parse::fault::NumberFault;
+use codec::refusal::{Fault, Refusal};
+use std::fmt;
 
 #[derive(Clone, Copy, Debug, PartialEq, Eq)]
 pub enum ColumnFault {
@@ -32,22 +35,37 @@ impl From<NumberFault> for ColumnFault {
     }
 }
 
-impl ColumnFault {
-    pub fn number(self) -> u8
-        ensures { result ≡ column_number self }
-    {
+impl Refusal for ColumnFault {
+    ghost number_of = { column_number };
+
+    fn number(self) -> u8 {
         match self {
             ColumnFault::Element(fault) => fault.number(),
             ColumnFault::RunTooLong => 17,
         }
     }
+}
 
-    pub fn cause(self) -> &'static str
-        ensures { result.now ≡ column_cause self }
-    {
+impl Fault for ColumnFault {
+    ghost words = { column_cause };
+
+    fn cause(self) -> &'static str {
         match self {
             ColumnFault::Element(fault) => fault.cause(),
             ColumnFault::RunTooLong => "run too long",
         }
     }
 }
+
+// A fault is shown as its cause.
+impl fmt::Display for ColumnFault {
+    ghost output = { λ fault. Some (column_cause fault) };
+
+    ghost styled_output = { λ fault s. Some (styled_text s (column_cause fault)) };
+
+    fn fmt<W: fmt::Write>(&self, f: &mut fmt::Formatter<W>) -> fmt::Result {
+        f.pad(self.cause())
+    }
+}
+
+impl std::error::Error for ColumnFault {}

@@ -6,6 +6,8 @@
 pub mod col_error;
 // columns read by values
 pub mod column_decoder;
+// where the reader of a column stands
+mod cursor;
 // differences of numbers
 pub mod delta;
 // why a column is refused, and the number of each refusal

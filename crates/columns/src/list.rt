@@ -12,6 +12,7 @@ pub struct Listed<'t, T> {
     ghost short: { length items.now < 2 ^ 63 },
 }
 
+// By hand, since no impl is derived for a generic struct with a ghost field.
 impl<T: Copy> Clone for Listed<'_, T> {
     ghost is_clone = { λ x y. y ≡ x };
 

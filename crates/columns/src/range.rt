@@ -14,7 +14,7 @@ pub enum RangeRefused {
 }
 
 // A part of the data, from its start up to its end. No range ends before its start.
-#[derive(Clone, Copy)]
+#[derive(Clone, Copy, Debug, PartialEq, Eq)]
 pub struct Range {
     start: usize,
     end: usize,

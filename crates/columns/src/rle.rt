@@ -2,9 +2,10 @@
 //
 // A run of n equal elements is the signed number n and one code. A literal run of n elements is -n and
 // n codes. A null run is 0 and the unsigned length. Nulls alone take no bytes.
-ghost use Rattle.std.specs.Prelude.{◌≡◌, ◌≤◌, length, ⊤};
+ghost use Rattle.std.specs.Prelude.{◌≡◌, ⊤};
 
-use crate::rle::run::Run;
+use crate::cursor::Cursor;
+use crate::rle::run::Head;
 use std::alloc::AllocError;
 
 // reading
@@ -24,17 +25,13 @@ pub mod source;
 // what was told and is not written
 mod state;
 
-// A run column that is read: the data up to the column's end, where in it the reader stands, what
-// is left of the run there, and the element that the last header had.
+// A run column that is read: where the reader stands, and what is left of the run there.
 pub struct RleDecoder<'a, E> {
-    bytes: &'a [u8],
-    offset: usize,
-    count: u64,
-    run: Run,
-    last: E,
-    ghost inside: { offset ≤ length bytes.now },
+    cursor: Cursor<'a>,
+    head: Head<E>,
 }
 
+// By hand: a derived impl would say of a clone no more than what the clone of its element says.
 impl<E: Copy> Clone for RleDecoder<'_, E> {
     ghost is_clone = { λ x y. y ≡ x };
 
@@ -42,11 +39,8 @@ impl<E: Copy> Clone for RleDecoder<'_, E> {
 
     fn clone(&self) -> Result<Self, AllocError> {
         Ok(RleDecoder {
-            bytes: self.bytes,
-            offset: self.offset,
-            count: self.count,
-            run: self.run,
-            last: self.last,
+            cursor: self.cursor,
+            head: self.head,
         })
     }
 }

@@ -1,5 +1,5 @@
 // The columns that are read by values.
-ghost use Rattle.std.specs.Prelude.{◌≡◌, ℕ, List, ℤ};
+ghost use Rattle.std.specs.Prelude.{◌≡◌, ℕ, ◌-◌, List, length, ℤ};
 ghost use Rattle.codec.specs.Elements.{reads_unsigned, reads_text};
 ghost use Rattle.columns.specs.Column.{Entry, others, remains};
 ghost use Rattle.columns.specs.ColErrors.{seen_option};
@@ -10,16 +10,28 @@ use crate::column_decoder::ColumnDecoder;
 use crate::delta::DeltaDecoder;
 use crate::fault::ColumnFault;
 use crate::rle::RleDecoder;
-use crate::rle::run::Next;
-use codec::element::Decodable;
+use crate::rle::run::Placed;
 use codec::element::number::Unsigned;
 use codec::element::text::Text;
 
 // A text of the data, and where in the data it stands.
-#[derive(Clone, Copy)]
+#[derive(Clone, Copy, Debug, PartialEq, Eq)]
 pub struct TextPart<'a> {
     pub text: &'a str,
     pub place: usize,
+}
+
+impl<'a> TextPart<'a> {
+    // A text stands right before the end of its code.
+    fn new(read: Placed<Text<'a>>) -> TextPart<'a>
+        ensures { text_seen result ≡ (read.entry.element.part.now, read.entry.end - length read.entry.element.part.now) }
+    {
+        let text = read.element.as_str();
+        TextPart {
+            text,
+            place: read.end.saturating_sub(text.len()),
+        }
+    }
 }
 
 impl<'a> ColumnDecoder for RleDecoder<'a, Unsigned> {
@@ -40,12 +52,7 @@ impl<'a> ColumnDecoder for RleDecoder<'a, Unsigned> {
     ghost leaves = { others };
 
     fn maybe_next(&mut self) -> Result<Option<u64>, ColumnFault> {
-        let mut place = Unsigned::blank();
-        match self.next(&mut place)? {
-            Next::Element(_) => Ok(Some(place.value)),
-            Next::Null => Ok(None),
-            Next::End => Ok(None),
-        }
+        Ok(self.next()?.flatten().map(|number| number.element.value))
     }
 }
 
@@ -67,10 +74,7 @@ impl<'a> ColumnDecoder for DeltaDecoder<'a> {
     ghost leaves = { others };
 
     fn maybe_next(&mut self) -> Result<Option<i64>, ColumnFault> {
-        match self.next()? {
-            Some(entry) => Ok(entry),
-            None => Ok(None),
-        }
+        Ok(self.next()?.flatten())
     }
 }
 
@@ -91,23 +95,11 @@ impl<'a> ColumnDecoder for RleDecoder<'a, Text<'a>> {
 
     ghost leaves = { others };
 
-    // A text stands right before the end of its code.
     fn maybe_next(&mut self) -> Result<Option<TextPart<'a>>, ColumnFault>
         ensures answer { seen_option text_seen result ≡ text_value (remains reads_text (λ x. x.part.now) self.old) }
         ensures after { remains reads_text (λ x. x.part.now) self.new ≡ others (remains reads_text (λ x. x.part.now) self.old) }
         ensures places { TextsStand }
     {
-        let mut place = Text::blank();
-        match self.next(&mut place)? {
-            Next::Element(end) => {
-                let text = place.as_str();
-                Ok(Some(TextPart {
-                    text,
-                    place: end.saturating_sub(text.len()),
-                }))
-            }
-            Next::Null => Ok(None),
-            Next::End => Ok(None),
-        }
+        Ok(self.next()?.flatten().map(TextPart::new))
     }
 }

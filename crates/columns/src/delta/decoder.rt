@@ -9,9 +9,6 @@ use crate::delta::DeltaDecoder;
 use crate::fault::ColumnFault;
 use crate::range::{Range, RangeRefused};
 use crate::rle::RleDecoder;
-use crate::rle::run::Next;
-use codec::element::Decodable;
-use codec::element::number::Signed;
 
 impl<'a> DeltaDecoder<'a> {
     // A reader at its end.
@@ -55,14 +52,14 @@ impl<'a> DeltaDecoder<'a> {
         ensures answer { result ≡ first_number (deltas_left self.old) }
         ensures after { deltas_left self.new ≡ others (deltas_left self.old) }
     {
-        let mut difference = Signed::blank();
-        match self.rle.next(&mut difference)? {
-            Next::End => Ok(None),
-            Next::Null => Ok(Some(None)),
-            Next::Element(_) => {
-                self.absolute_val = self.absolute_val.saturating_add(difference.value);
-                Ok(Some(Some(self.absolute_val)))
+        // A match: with one closure within another the proof did not close.
+        Ok(match self.rle.next()? {
+            None => None,
+            Some(None) => Some(None),
+            Some(Some(difference)) => {
+                self.absolute_val = self.absolute_val.saturating_add(difference.element.value);
+                Some(Some(self.absolute_val))
             }
-        }
+        })
     }
 }

@@ -1,16 +1,14 @@
 // Values in memory as elements.
-ghost use Rattle.std.specs.Prelude.{◌≡◌, ℕ, ◌-◌, ◌^◌, List, map, length, take, ℤ};
+ghost use Rattle.std.specs.Prelude.{◌≡◌, ℕ, ◌-◌, ◌^◌, List, length, take};
+ghost use Rattle.std.specs.Option.{option_map};
 ghost use Rattle.codec.specs.Elements.{text_code};
-ghost use Rattle.codec.specs.Leb128.{uleb, sleb};
-ghost use Rattle.columns.specs.Law.{coded};
-ghost use Rattle.columns.specs.Lists.{coded_few};
 
-use crate::delta::Numbers;
 use crate::list::Listed;
-use crate::rle::source::{Arrival, Source};
-use codec::element::number::{Signed, Unsigned};
+use crate::rle::source::{Entry, Source};
+use codec::element::number::Number;
 use codec::element::text::Text;
 use codec::element::{Decodable, Encodable};
+use codec::integer::Integer;
 
 // The most entries of a list that is written.
 const MOST: usize = (1 << 63) - 1;
@@ -20,32 +18,46 @@ pub trait Item<'a, E: Encodable<'a>>: Copy {
     // the code of the element
     ghost code: { Self → List ℕ };
 
-    // Puts the element into a place.
-    fn put_in(self, place: &mut E)
-        ensures { E.Decodable.code (E.Decodable.means place.new) ≡ code self };
+    // The element.
+    fn element(self) -> E
+        ensures { E.Decodable.code (E.Decodable.means result) ≡ code self };
 }
 
-impl<'a> Item<'a, Unsigned> for u64 {
-    ghost code = { uleb };
+// An element stands for itself.
+impl<'a, E: Encodable<'a>> Item<'a, E> for E {
+    ghost code = { λ x. E.Decodable.code (E.Decodable.means x) };
 
-    fn put_in(self, place: &mut Unsigned) {
-        *place = Unsigned { value: self };
+    fn element(self) -> E {
+        self
     }
 }
 
-impl<'a> Item<'a, Signed> for i64 {
-    ghost code = { sleb };
+impl<'a, N: Integer> Item<'a, Number<N>> for N {
+    ghost code = { λ n. N.code (N.means n) };
 
-    fn put_in(self, place: &mut Signed) {
-        *place = Signed { value: self };
+    fn element(self) -> Number<N> {
+        Number::from(self)
     }
 }
 
 impl<'a> Item<'a, Text<'a>> for &'a str {
     ghost code = { λ s. text_code s.now };
 
-    fn put_in(self, place: &mut Text<'a>) {
-        *place = Text::from_str(self);
+    fn element(self) -> Text<'a> {
+        Text::from(self)
+    }
+}
+
+// A value or nothing stands for an element or a null.
+impl<'a, E: Encodable<'a>, T: Item<'a, E>> Entry<'a, E> for Option<T> {
+    ghost code = { option_map T.Item.code };
+
+    fn element(self) -> Option<E> {
+        // not by `map`: no closure is passed on yet whose bound names a lifetime
+        match self {
+            Some(item) => Some(item.element()),
+            None => None,
+        }
     }
 }
 
@@ -61,38 +73,18 @@ impl<'t, T> Listed<'t, T> {
     }
 }
 
-impl<'a, 't, E: Encodable<'a>, T: Item<'a, E>> Source<'a, E> for Listed<'t, T> {
-    ghost list = { λ s. map (coded T.Item.code) s.items.now };
+impl<'t, T: Copy> Source for Listed<'t, T> {
+    type Entry = Option<T>;
 
-    ghost few = { λ s. coded_few T.Item.code (2 ^ 63) s.items.now s.short };
-
-    fn next(&mut self, place: &mut E) -> Arrival {
-        let [first, rest @ ..] = self.items else {
-            return Arrival::End;
-        };
-        let entry = *first;
-        *self = Listed { items: rest };
-        match entry {
-            Some(item) => {
-                item.put_in(place);
-                Arrival::Element
-            }
-            None => Arrival::Null,
-        }
-    }
-}
-
-impl<'t> Numbers for Listed<'t, i64> {
-    ghost numbers = { λ s. s.items.now };
+    ghost list = { λ s. s.items.now };
 
     ghost few = { λ s. s.short };
 
-    fn next(&mut self) -> Option<Option<i64>> {
-        let [first, rest @ ..] = self.items else {
+    fn next(&mut self) -> Option<Option<T>> {
+        let [first, items @ ..] = self.items else {
             return None;
         };
-        let entry = *first;
-        *self = Listed { items: rest };
-        Some(entry)
+        *self = Listed { items };
+        Some(*first)
     }
 }

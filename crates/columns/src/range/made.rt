@@ -3,6 +3,7 @@ ghost use Rattle.std.specs.Prelude.{◌≡◌, ◌≤◌};
 ghost use Rattle.columns.specs.Ranges.{span, ranged, range_number};
 
 use crate::range::{Range, RangeRefused};
+use codec::refusal::Refusal;
 
 impl Range {
     // The range of two numbers, where they are in order.
@@ -28,10 +29,10 @@ impl Range {
     }
 }
 
-impl RangeRefused {
-    pub fn number(self) -> u8
-        ensures { result ≡ range_number self }
-    {
+impl Refusal for RangeRefused {
+    ghost number_of = { range_number };
+
+    fn number(self) -> u8 {
         match self {
             RangeRefused::EndBeforeStart => 1,
             RangeRefused::EndBeyondData => 3,

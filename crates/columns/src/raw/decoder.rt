@@ -3,6 +3,7 @@ ghost use Rattle.std.specs.Prelude.{◌≡◌, true, [], length, take, is_err, i
 ghost use Rattle.columns.specs.Ranges.{opening};
 ghost use Rattle.columns.specs.Raws.{raw_left, raw_at, raw_after, part_seen};
 
+use crate::cursor::Cursor;
 use crate::fault::ColumnFault;
 use crate::range::{Range, RangeRefused};
 use crate::raw::{Part, RawDecoder};
@@ -14,8 +15,7 @@ impl<'a> RawDecoder<'a> {
         ensures { raw_left result ≡ ([], 0) }
     {
         RawDecoder {
-            bytes: &[],
-            offset: 0,
+            cursor: Cursor::new(),
         }
     }
 
@@ -25,13 +25,7 @@ impl<'a> RawDecoder<'a> {
         ensures after { raw_left self.new ≡ (if nat_le range.end (length «data».now) then (take range.end «data».now, range.start) else raw_left self.old) }
         ensures kept { is_err result ≡ true → self.new ≡ self.old }
     {
-        if range.end() > data.len() {
-            return Err(RangeRefused::EndBeyondData);
-        }
-        *self = RawDecoder {
-            bytes: &data[0..range.end()],
-            offset: range.start(),
-        };
+        self.cursor = Cursor::open(data, range)?;
         Ok(())
     }
 
@@ -41,16 +35,16 @@ impl<'a> RawDecoder<'a> {
         ensures answer { part_seen result ≡ raw_at (raw_left self.old) count }
         ensures after { raw_left self.new ≡ raw_after (raw_left self.old) count }
     {
-        let bytes = self.bytes;
-        let place = self.offset;
-        if count > (bytes.len() - place) as u64 {
-            self.offset = bytes.len();
+        let place = self.cursor.place();
+        let rest = self.cursor.rest();
+        if count > rest.len() as u64 {
+            self.cursor.close();
             return Err(ColumnFault::Element(ElementFault::PastEnd));
         }
-        let end = place + count as usize;
-        self.offset = end;
+        let count = count as usize;
+        self.cursor.step(count);
         Ok(Part {
-            bytes: &bytes[place..end],
+            bytes: &rest[..count],
             place,
         })
     }

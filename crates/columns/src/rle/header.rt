@@ -1,34 +1,33 @@
 // The header of a run.
-ghost use Rattle.std.specs.Prelude.{◌≡◌, ℕ, ◌<◌, ◌≤◌, length, drop, IfOk};
-ghost use Rattle.columns.specs.Runs.{shape, reads_shape, reads_nulls, header, head_of, last_of};
+//
+// How much was read is bounded in each contract by the bytes of the call, which no type of an answer knows.
+ghost use Rattle.std.specs.Prelude.{◌≡◌, ℕ, ◌<◌, ◌≤◌, length, IfOk};
+ghost use Rattle.columns.specs.Runs.{shape, reads_shape, reads_nulls, element, header, head_by, read_by};
 
 use crate::fault::ColumnFault;
 use crate::rle::run::{Head, Run, Shape};
 use codec::element::Decodable;
-use codec::parse::leb128::{leb128_i64, leb128_u64};
+use codec::parse::leb128::read_leb128;
 
 // What a header's number says.
 fn shape_of(number: i64) -> Result<Shape, ColumnFault>
     ensures { result ≡ shape number }
 {
-    if number > 0 {
-        Ok(Shape::Same(number.unsigned_abs()))
-    } else if number == 0 {
-        Ok(Shape::Nulls)
-    } else if number == i64::MIN {
-        Err(ColumnFault::RunTooLong)
-    } else {
-        Ok(Shape::Literal(number.unsigned_abs()))
+    match number {
+        i64::MIN => Err(ColumnFault::RunTooLong),
+        ..=-1 => Ok(Shape::Literal(number.unsigned_abs())),
+        0 => Ok(Shape::Nulls),
+        1.. => Ok(Shape::Same(number.unsigned_abs())),
     }
 }
 
+// What the number in front says.
 fn read_shape(bytes: &[u8]) -> Result<(Shape, usize), ColumnFault>
     ensures answer { result ≡ reads_shape bytes.now }
     ensures within { IfOk result (λ p. (0 < p.1) × (p.1 ≤ length bytes.now)) }
 {
-    let (number, used) = leb128_i64(bytes)?;
-    let shape = shape_of(number)?;
-    Ok((shape, used))
+    let (number, used) = read_leb128::<i64>(bytes)?;
+    Ok((shape_of(number)?, used))
 }
 
 // The length of a null run.
@@ -36,52 +35,42 @@ fn read_nulls(bytes: &[u8]) -> Result<(u64, usize), ColumnFault>
     ensures answer { result ≡ reads_nulls bytes.now }
     ensures within { IfOk result (λ p. p.1 ≤ length bytes.now) }
 {
-    let (count, used) = leb128_u64(bytes)?;
+    let (count, used) = read_leb128::<u64>(bytes)?;
     if count > i64::MAX as u64 {
         return Err(ColumnFault::RunTooLong);
     }
     Ok((count, used))
 }
 
-// What is left of the bytes from a place on.
-pub(crate) fn tail(bytes: &[u8], at: usize) -> &[u8]
-    requires { at ≤ length bytes.now }
-    ensures { result.now ≡ drop at bytes.now }
+// The element that the bytes start with. It is read into a place, since that is how a kind reads.
+pub(crate) fn read_element<'a, E: Decodable<'a>>(bytes: &'a [u8]) -> Result<(E, usize), ColumnFault>
+    ensures answer { read_by E.means result ≡ element (E.reads bytes.now) }
+    ensures within { IfOk result (λ p. p.1 ≤ length bytes.now) }
 {
-    &bytes[at..]
+    let mut place = E::blank();
+    let used = place.decode(bytes)?;
+    Ok((place, used))
 }
 
-// The run that the bytes start with. The element that it repeats goes into the place.
+// The run that the bytes start with.
 pub(crate) fn read_header<'a, E: Decodable<'a>>(
     bytes: &'a [u8],
-    last: &mut E,
-) -> Result<Head, ColumnFault>
-    ensures answer { result ≡ head_of (header E.reads bytes.now) }
-    ensures place { E.means last.new ≡ last_of (header E.reads bytes.now) (E.means last.old) }
-    ensures within { IfOk result (λ h. (0 < h.used) × (h.used ≤ length bytes.now)) }
+) -> Result<(Head<E>, usize), ColumnFault>
+    ensures answer { read_by (head_by E.means) result ≡ header E.reads bytes.now }
+    ensures within { IfOk result (λ p. (0 < p.1) × (p.1 ≤ length bytes.now)) }
 {
-    let (shape, k) = read_shape(bytes)?;
-    match shape {
+    let (shape, used) = read_shape(bytes)?;
+    let rest = &bytes[used..];
+    let (count, run, more) = match shape {
         Shape::Nulls => {
-            let (count, j) = read_nulls(tail(bytes, k))?;
-            Ok(Head {
-                count,
-                run: Run::Null,
-                used: k + j,
-            })
+            let (count, more) = read_nulls(rest)?;
+            (count, Run::Null, more)
         }
         Shape::Same(count) => {
-            let j = last.decode(tail(bytes, k))?;
-            Ok(Head {
-                count,
-                run: Run::Same,
-                used: k + j,
-            })
+            let (element, more) = read_element(rest)?;
+            (count, Run::Same(element), more)
         }
-        Shape::Literal(count) => Ok(Head {
-            count,
-            run: Run::Literal,
-            used: k,
-        }),
-    }
+        Shape::Literal(count) => (count, Run::Literal, 0),
+    };
+    Ok((Head { count, run }, used + more))
 }

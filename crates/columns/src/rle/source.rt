@@ -1,39 +1,35 @@
 // Lists to be written.
 ghost use Rattle.std.specs.Prelude.{◌≡◌, ℕ, ◌^◌, ◌<◌, List, length, Option};
-ghost use Rattle.columns.specs.Came.{came, stepped};
+ghost use Rattle.std.specs.Option.{option_map};
+ghost use Rattle.columns.specs.Came.{came};
 
 use codec::element::{Decodable, Encodable};
 
-// What comes next of a list.
-#[derive(Clone, Copy, Debug, PartialEq, Eq)]
-pub enum Arrival {
-    End,
-    Null,
-    Element,
-}
+// A place in a list. A copy of it goes through the same entries again, which is how the elements of
+// a literal run are asked for once more: its length stands before them.
+//
+// It is no `Iterator`, whose `next` says a step by a relation: here the list itself has to be named.
+pub trait Source: Copy {
+    // an element or a null, as the list has it
+    type Entry;
 
-// A place in a list of elements and nulls. A copy of it goes through the same entries again, which
-// is how the elements of a literal run are asked for once more: its length stands before them.
-pub trait Source<'a, E: Encodable<'a>>: Copy {
-    // the entries still to come: each a null, or the code of an element
-    ghost list: { Self → List (Option (List ℕ)) };
+    // the entries still to come
+    ghost list: { Self → List Self.Entry };
 
     // they are few enough for the number of a header
     ghost few: { (s : Self) → length (list s) < 2 ^ 63 };
 
-    // Steps over the next entry. If it is an element, the place then holds it.
-    fn next(&mut self, place: &mut E) -> Arrival
-        ensures { list self.old ≡ stepped result (E.Decodable.code (E.Decodable.means place.new)) (list self.new) };
+    // The next entry. Nothing at the end.
+    fn next(&mut self) -> Option<Self::Entry>
+        ensures { list self.old ≡ came result (list self.new) };
 }
 
-// The next entry, a null or an element. Nothing at the end.
-pub(crate) fn advance<'a, E: Encodable<'a>, C: Source<'a, E>>(source: &mut C) -> Option<Option<E>>
-    ensures { C.list source.old ≡ came E.Decodable.code E.Decodable.means result (C.list source.new) }
-{
-    let mut place = E::blank();
-    match source.next(&mut place) {
-        Arrival::End => None,
-        Arrival::Null => Some(None),
-        Arrival::Element => Some(Some(place)),
-    }
+// What stands for an element of a kind, or for a null.
+pub trait Entry<'a, E: Encodable<'a>>: Copy {
+    // the code of the element
+    ghost code: { Self → Option (List ℕ) };
+
+    // The element, if it is no null.
+    fn element(self) -> Option<E>
+        ensures { option_map E.Decodable.code (option_map E.Decodable.means result) ≡ code self };
 }

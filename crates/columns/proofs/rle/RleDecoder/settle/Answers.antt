@@ -1,37 +1,32 @@
-use Rattle.std.proofs.Common.{◌≡◌, ℕ, List, length, drop, Err, sym, ap, ◌∙◌, arith, length-drop}
+use Rattle.std.proofs.Common.{Err, sym, refl, ap, ◌∙◌}
+use Rattle.std.proofs.lemmas.Bool.{leb-true, leb-false}
 use Rattle.std.proofs.lemmas.Result.{err_from_is_err_and}
-use Rattle.columns.specs.Runs.{header, kind_of}
-use Rattle.columns.specs.Steps.{report, bound}
-use Rattle.columns.proofs.Heads.{head_ok, head_err, not_both}
-use Rattle.columns.proofs.Settles.{turned, at_fault, at_end}
+use Rattle.columns.specs.Runs.{header, run_by, head_by}
+use Rattle.columns.specs.Column.{first, others}
+use Rattle.columns.proofs.Columns.{turned, at_fault, at_end, left_at}
 use Rattle.columns.proofs.rle.RleDecoder.settle.Goals as goal
 
-pub returns-then-self-bytes : goal.returns-then-self-bytes
-returns-then-self-bytes g c =
+pub returns-in_err-head-clause-fault : goal.returns-in_err-head-clause-fault
+returns-in_err-head-clause-fault g c =
     let k = g.E.Decodable in
     let s = c.loop-self.self in
-    let i = c.loop-self.invariant in
-    let e = at_end k.reads k.laws (bound c.args.self.now) s.offset (record { count = s.count; run = kind_of s.run (k.means s.last) }) c.loop-self-test.true (omega (arith, ap length i.1)) in
-    record { answer = ap report (sym e ∙ i.0); same = i.0; some = λ p. let z : ◌≡◌ {A = ℕ} 0 1 = cc in absurd (omega arith); kept = i.1 }
-
-pub returns-in_err-head : goal.returns-in_err-head
-returns-in_err-head g c =
-    let k = g.E.Decodable in
-    let s = c.loop-self.self in
-    let i = c.loop-self.invariant in
     let p = err_from_is_err_and c.from_residual.result c.from_residual.ensures.1 in
-    let e = ap (λ (d : List ℕ). header k.reads (drop s.offset d)) (sym i.1) ∙ ap (header k.reads) (sym c.tail.ensures) ∙ head_err _ _ c.in_err-head.ensures.answer in
-    let f = λ (m : k.Means). at_fault k.reads k.laws (bound c.args.self.now) s.offset (record { count = s.count; run = kind_of s.run m }) _ c.loop-self-test.true (omega (arith, ap length i.1)) e in
-    record { answer = p.1 ∙ ap Err p.2 ∙ ap report (sym (f (k.means s.last)) ∙ i.0); same = f (k.means c.read_header.new.last) ∙ sym (f (k.means s.last)) ∙ i.0; some = λ q. absurd (not_both _ q p.1); kept = i.1 }
-
-pub invariant_of-self-in-loop-self : goal.invariant_of-self-in-loop-self
-invariant_of-self-in-loop-self g c = record { inside = omega (arith, c.in_ok-head.ensures.within, ap length c.tail.ensures, length-drop c.loop-self.self.offset c.loop-self.self.bytes.now) }
+    let e = ap (header k.reads) (sym c.rest.ensures) ∙ sym c.in_err-head.ensures.answer in
+    rw p.1 (sym c.loop-self.invariant.0 ∙ at_fault k.reads k.laws s.cursor.bytes.now (run_by k.means s.head.run) s.head.count s.cursor.offset _ c.loop-self-test.true (leb-false _ _ (sym c.at_end.ensures ∙ c.if-not-at_end.true)) e ∙ ap Err (sym p.2))
 
 pub loop-self-preserved : goal.loop-self-preserved
 loop-self-preserved g c =
     let k = g.E.Decodable in
     let s = c.loop-self.self in
-    let i = c.loop-self.invariant in
-    let h = c.in_ok-head.ensures in
-    let e = ap (λ (d : List ℕ). header k.reads (drop s.offset d)) (sym i.1) ∙ ap (header k.reads) (sym c.tail.ensures) ∙ head_ok _ _ _ _ h.answer h.place in
-    (turned k.reads k.laws (bound c.args.self.now) s.offset c.in_ok-head.head.used (record { count = s.count; run = kind_of s.run (k.means s.last) }) (record { count = c.in_ok-head.head.count; run = kind_of c.in_ok-head.head.run (k.means c.read_header.new.last) }) c.loop-self-test.true (omega (arith, ap length i.1)) e ∙ i.0, i.1)
+    let h = c.in_ok-head.head in
+    let d = s.cursor.bytes.now in
+    let e = ap (header k.reads) (sym c.rest.ensures) ∙ sym c.in_ok-head.ensures.answer in
+    let t = turned k.reads k.laws d (run_by k.means s.head.run) s.head.count s.cursor.offset c.in_ok-head.used (head_by k.means h) c.loop-self-test.true (leb-false _ _ (sym c.at_end.ensures ∙ c.if-not-at_end.true)) e in
+    let l = left_at k.reads k.means (record { cursor = c.step.new.self; head = h }) d _ h.count h.run (ap (λ b. b.now) c.step.ensures.0) c.step.ensures.1 refl refl in
+    (ap first l ∙ t.0 ∙ c.loop-self.invariant.0, ap others l ∙ t.1 ∙ c.loop-self.invariant.1)
+
+pub returns-else-not-at_end-clause-ended : goal.returns-else-not-at_end-clause-ended
+returns-else-not-at_end-clause-ended g c =
+    let k = g.E.Decodable in
+    let s = c.loop-self.self in
+    λ z. at_end k.reads k.laws s.cursor.bytes.now (run_by k.means s.head.run) s.head.count s.cursor.offset z (leb-true _ _ (sym c.at_end.ensures ∙ c.if-not-at_end.false))

@@ -1,8 +1,9 @@
-use Rattle.codec.proofs.Feeds.{fed_then, fed_exit}
+use Rattle.codec.proofs.Feeds.{fed_same, fed_then, fed_exit}
+use Rattle.columns.proofs.Headers.{minus}
 use Rattle.columns.proofs.rle.flush.flush_lit_run.Goals as goal
 
-pub returns-in_err-write_minus : goal.returns-in_err-write_minus
-returns-in_err-write_minus g c = fed_exit _ c.from_residual.result c.from_residual.ensures.0 c.in_err-write_minus.ensures
+pub returns-in_err-write_leb128 : goal.returns-in_err-write_leb128
+returns-in_err-write_leb128 g c = fed_exit _ c.from_residual.result c.from_residual.ensures.0 (fed_same (minus c.args.count c.requires.0 c.requires.1) c.in_err-write_leb128.ensures.wrote)
 
 pub returns : goal.returns
-returns g c = fed_then c.in_ok-write_minus.ensures c.write_each.ensures
+returns g c = fed_then (fed_same (minus c.args.count c.requires.0 c.requires.1) c.in_ok-write_leb128.ensures.wrote) c.write_each.ensures

@@ -1,8 +1,8 @@
 use Rattle.codec.proofs.Feeds.{fed_then, fed_exit}
 use Rattle.columns.proofs.rle.flush.flush_null_run.Goals as goal
 
-pub returns-in_err-write_plus : goal.returns-in_err-write_plus
-returns-in_err-write_plus g c = fed_exit _ c.from_residual.result c.from_residual.ensures.0 c.in_err-write_plus.ensures
+pub returns-in_err-write_leb128 : goal.returns-in_err-write_leb128
+returns-in_err-write_leb128 g c = fed_exit _ c.from_residual.result c.from_residual.ensures.0 c.in_err-write_leb128.ensures.wrote
 
 pub returns : goal.returns
-returns g c = fed_then c.in_ok-write_plus.ensures c.write_uleb.ensures.wrote
+returns g c = fed_then c.in_ok-write_leb128.ensures.wrote c.write_leb128-2.ensures.wrote

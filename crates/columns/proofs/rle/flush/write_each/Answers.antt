@@ -1,44 +1,29 @@
-use Rattle.std.proofs.Common.{◌-◌, take, Some, None, sym, ap, ◌∙◌}
+use Rattle.std.proofs.Common.{◌-◌, ◌+◌, take, sym, ap, ◌∙◌}
 use Rattle.codec.specs.Feed.{fed}
-use Rattle.codec.proofs.Feeds.{fed_exit}
+use Rattle.codec.proofs.Feeds.{fed_on, fed_stop}
+use Rattle.columns.specs.Came.{coming}
 use Rattle.columns.specs.Spelled.{spelled}
-use Rattle.columns.specs.Came.{came}
-use Rattle.columns.proofs.Parts.{each_step, none_step}
-use Rattle.columns.proofs.Moves.{moved}
+use Rattle.columns.proofs.Parts.{each_step}
 use Rattle.columns.proofs.rle.flush.write_each.Goals as goal
-use Rattle.columns.proofs.rle.flush.write_each.Goals.{in-Some-entry+in_ok-encode, in_default-entry}
-
-pub returns-in_default : goal.returns-in_default
-returns-in_default g c =
-    let o = g.O.Output in
-    record { is = sym c.loop-left.invariant ∙ ap (fed o.takes o.step (o.state c.loop-left.out)) (none_step _ c.loop-left.left c.in_default.ensures) }
+use Rattle.columns.proofs.rle.flush.write_each.Goals.{in-Some-element+in_ok-encode, in_default-element}
 
 pub returns-in_err-encode : goal.returns-in_err-encode
 returns-in_err-encode g c =
-    let o = g.O.Output in
-    let e = g.C.Source in
-    let k = g.E.Decodable in
-    let after = e.list c.advance.new.source in
-    let n = c.loop-left.left in
-    let rest = spelled (take (n - 1) after) in
-    let q = each_step _ after (Some (k.code (k.means c.in-Some-entry.element))) n c.loop-left-test.true (c.in-Some.ensures ∙ ap (λ a. came k.code k.means (Some a) after) c.in-Some-entry.is) in
-    record { is = sym c.loop-left.invariant ∙ ap (fed o.takes o.step (o.state c.loop-left.out)) q ∙ (fed_exit rest c.from_residual.result c.from_residual.ensures.0 c.in_err-encode.ensures).is }
+    let n = c.loop.counter in
+    let rest = spelled (take (c.args.count - (n + 1)) (coming g.C.Entry.Entry.code g.C.Source.list c.next.new.self)) in
+    record { is = fed_stop _ _ rest c.loop.invariant (each_step g.C.Entry.Entry.code c.args.count n c.loop-test.true c.in-Some.ensures c.in-Some-element.ensures) c.from_residual.result c.from_residual.ensures.0 c.in_err-encode.ensures }
 
-pub loop-left-preserved : goal.loop-left-preserved
-loop-left-preserved g c =
+pub loop-preserved : goal.loop-preserved
+loop-preserved g c =
     let o = g.O.Output in
-    let e = g.C.Source in
-    let k = g.E.Decodable in
-    let after = e.list c.advance.new.source in
-    let n = c.loop-left.left in
-    let rest = spelled (take (n - 1) after) in
-    elim c.match-entry.branch [
-      | in-Some-entry+in_ok-encode w ↦
+    let n = c.loop.counter in
+    let rest = spelled (take (c.args.count - (n + 1)) (coming g.C.Entry.Entry.code g.C.Source.list c.next.new.self)) in
+    elim c.match-element.branch [
+      | in-Some-element+in_ok-encode w ↦
           ap (λ u. fed o.takes o.step (o.state u) rest) w.out-is
-          ∙ moved (k.code (k.means w.in-Some-entry.element)) rest w.in_ok-encode.ensures (each_step _ after (Some (k.code (k.means w.in-Some-entry.element))) n c.loop-left-test.true (c.in-Some.ensures ∙ ap (λ a. came k.code k.means (Some a) after) w.in-Some-entry.is))
-          ∙ c.loop-left.invariant
-      | in_default-entry w ↦
+          ∙ fed_on _ _ rest c.loop.invariant (each_step g.C.Entry.Entry.code c.args.count n c.loop-test.true c.in-Some.ensures w.in-Some-element.ensures) w.in_ok-encode.ensures
+      | in_default-element w ↦
           ap (λ u. fed o.takes o.step (o.state u) rest) w.out-is
-          ∙ ap (fed o.takes o.step (o.state c.loop-left.out)) (sym (each_step _ after None n c.loop-left-test.true (c.in-Some.ensures ∙ ap (λ a. came k.code k.means (Some a) after) w.in_default-entry.is)))
-          ∙ c.loop-left.invariant
+          ∙ ap (fed o.takes o.step (o.state c.loop.out)) (sym (each_step g.C.Entry.Entry.code c.args.count n c.loop-test.true c.in-Some.ensures w.in_default-element.ensures))
+          ∙ c.loop.invariant
     ]
