@@ -1,15 +1,15 @@
 -- Columns by their bytes, in hexadecimal as the format's documents write them.
 use Rattle.std.specs.Prelude.{◌≡◌, ℕ, List, [], ◌∷◌, map, pos, Some, None, Option}
+use Rattle.std.specs.Option.{option_map}
 use Rattle.codec.specs.Elements.{reads_unsigned, reads_signed}
 use Rattle.codec.specs.Leb128.{uleb}
 use Rattle.columns.specs.Column.{null, item, entries}
 use Rattle.columns.specs.Cut.{written}
 use Rattle.columns.specs.Deltas.{delta_column, summed}
-use Rattle.columns.specs.Law.{coded}
 
 -- a run column of unsigned numbers
 abbrev pub numbers : List (Option ℕ) → List ℕ
-numbers xs = written (map (coded uleb) xs)
+numbers xs = written (map (option_map uleb) xs)
 
 pub record Columns : Type 0 where
   pub run : numbers (Some 5 ∷ Some 5 ∷ Some 5 ∷ []) ≡ 0x03 ∷ 0x05 ∷ []

@@ -1,118 +1,122 @@
 // One request and its answer.
-use crate::hex;
+ghost use Rattle.std.specs.Prelude.{◌≡◌, ◌≢◌, [], codes, IfOk, Ok};
+ghost use Rattle.hex.specs.Hex.{decode_of};
+
 use codec::element::Decodable;
 use codec::element::text::Text;
 use codec::encoding::SinkRefused;
 use codec::encoding::buffer::BufferSink;
-use codec::encoding::leb128::{put_sleb, put_uleb};
-use codec::parse::fault::NumberFault;
-use codec::parse::leb128::{leb128_i64, leb128_u64};
+use codec::encoding::leb128::put_leb128;
+use codec::integer::Integer;
+use codec::parse::leb128::read_leb128;
+use hex::FromHexError;
 use std::alloc::{AllocError, Global};
 use std::fmt::Display;
-
-const BAD: &str = "bad request\n";
+use std::io;
+use std::io::Write;
+use std::num::ParseIntError;
+use std::str::Utf8Error;
 
 // The most bytes that a number takes.
 const LONGEST: usize = 10;
 
-// The answer to a line, with its end; nothing to an empty one.
-pub(crate) fn answer(heap: Global, line: &[u8]) -> Result<String, AllocError> {
-    let Ok(text) = std::str::from_utf8(line) else {
-        return String::from_str(heap, BAD);
-    };
-    let mut words = text.split_whitespace();
+// Why a line has no answer of its own.
+#[derive(Drop)]
+enum RequestError {
+    // it is no request
+    Bad,
+    // there is no memory, or the answer cannot be written
+    Io(io::Error),
+}
+
+impl From<io::Error> for RequestError {
+    fn from(error: io::Error) -> RequestError {
+        RequestError::Io(error)
+    }
+}
+
+impl From<Utf8Error> for RequestError {
+    fn from(_: Utf8Error) -> RequestError {
+        RequestError::Bad
+    }
+}
+
+impl From<ParseIntError> for RequestError {
+    fn from(_: ParseIntError) -> RequestError {
+        RequestError::Bad
+    }
+}
+
+impl From<FromHexError> for RequestError {
+    fn from(error: FromHexError) -> RequestError {
+        match error {
+            FromHexError::OutOfMemory => RequestError::Io(AllocError.into()),
+            _ => RequestError::Bad,
+        }
+    }
+}
+
+// Answers a line; nothing to an empty one.
+pub(crate) fn answer(heap: Global, line: &[u8], output: &mut impl Write) -> io::Result<()> {
+    match answer_request(heap, line, output) {
+        Ok(()) => Ok(()),
+        Err(RequestError::Bad) => writeln!(output, "bad request"),
+        Err(RequestError::Io(error)) => Err(error),
+    }
+}
+
+fn answer_request(heap: Global, line: &[u8], output: &mut impl Write) -> Result<(), RequestError> {
+    let mut words = std::str::from_utf8(line)?.split_whitespace();
     let Some(name) = words.next() else {
-        return Ok(String::new(heap));
+        return Ok(());
     };
     let (Some(word), None) = (words.next(), words.next()) else {
-        return String::from_str(heap, BAD);
+        return Err(RequestError::Bad);
     };
     match name {
-        "uleb" => read_unsigned(heap, word),
-        "sleb" => read_signed(heap, word),
-        "wuleb" => write_unsigned(heap, word),
-        "wsleb" => write_signed(heap, word),
-        "utf8" => read_text(heap, word),
-        _ => String::from_str(heap, BAD),
+        "uleb" => tell_number::<u64>(output, bytes_of(heap, word)?.as_slice())?,
+        "sleb" => tell_number::<i64>(output, bytes_of(heap, word)?.as_slice())?,
+        "wuleb" => tell_code(heap, output, word.parse::<u64>()?)?,
+        "wsleb" => tell_code(heap, output, word.parse::<i64>()?)?,
+        "utf8" => tell_text(output, bytes_of(heap, word)?.as_slice())?,
+        _ => return Err(RequestError::Bad),
     }
+    Ok(())
 }
 
-// A number that was read, or why it was refused.
-fn told<N: Display + Drop>(
-    heap: Global,
-    read: Result<(N, usize), NumberFault>,
-) -> Result<String, AllocError> {
-    match read {
-        Ok((number, used)) => format!(in heap; "ok,{number},{used}\n"),
-        Err(fault) => refused(heap, fault.cause()),
+// The bytes that a word gives: two hexadecimal digits for each, and `-` for none.
+fn bytes_of(heap: Global, word: &str) -> Result<Vec<u8>, RequestError>
+    ensures dash { word.now ≡ codes "-" → IfOk result (λ bytes. bytes.items ≡ []) }
+    ensures digits { word.now ≢ codes "-" → IfOk result (λ bytes. decode_of word.now ≡ Ok bytes.items) }
+{
+    if word == "-" {
+        return Ok(Vec::new(heap));
     }
+    Ok(hex::decode(heap, word)?)
 }
 
-fn refused(heap: Global, cause: &str) -> Result<String, AllocError> {
-    format!(in heap; "fault,{cause}\n")
-}
-
-fn read_unsigned(heap: Global, word: &str) -> Result<String, AllocError> {
-    match hex::decode(heap, word.as_bytes())? {
-        Some(bytes) => told(heap, leb128_u64(bytes.as_slice())),
-        None => String::from_str(heap, BAD),
+// The number that bytes start with, or why it is refused.
+fn tell_number<N: Integer + Display>(output: &mut impl Write, bytes: &[u8]) -> io::Result<()> {
+    match read_leb128::<N>(bytes) {
+        Ok((number, used)) => writeln!(output, "ok,{number},{used}"),
+        Err(fault) => writeln!(output, "fault,{fault}"),
     }
-}
-
-fn read_signed(heap: Global, word: &str) -> Result<String, AllocError> {
-    match hex::decode(heap, word.as_bytes())? {
-        Some(bytes) => told(heap, leb128_i64(bytes.as_slice())),
-        None => String::from_str(heap, BAD),
-    }
-}
-
-// What a buffer holds that a number was written to.
-fn written(
-    heap: Global,
-    sink: &BufferSink,
-    put: Result<(), SinkRefused>,
-) -> Result<String, AllocError> {
-    let mut text = String::new(heap);
-    match put {
-        Ok(()) => hex::encode(sink.filled(), &mut text)?,
-        Err(SinkRefused) => text.push_str("refused")?,
-    }
-    text.push('\n')?;
-    Ok(text)
-}
-
-fn write_unsigned(heap: Global, word: &str) -> Result<String, AllocError> {
-    let Ok(number) = word.parse::<u64>() else {
-        return String::from_str(heap, BAD);
-    };
-    let mut buf = [0; LONGEST];
-    let mut sink = BufferSink::new(&mut buf);
-    let put = put_uleb(&mut sink, number);
-    written(heap, &sink, put)
-}
-
-fn write_signed(heap: Global, word: &str) -> Result<String, AllocError> {
-    let Ok(number) = word.parse::<i64>() else {
-        return String::from_str(heap, BAD);
-    };
-    let mut buf = [0; LONGEST];
-    let mut sink = BufferSink::new(&mut buf);
-    let put = put_sleb(&mut sink, number);
-    written(heap, &sink, put)
 }
 
 // Whether bytes are text.
-fn check_text(heap: Global, bytes: &[u8]) -> Result<String, AllocError> {
-    let mut text = Text::blank();
-    match text.fill(bytes) {
-        Ok(()) => String::from_str(heap, "ok\n"),
-        Err(fault) => refused(heap, fault.cause()),
+fn tell_text(output: &mut impl Write, bytes: &[u8]) -> io::Result<()> {
+    match Text::blank().fill(bytes) {
+        Ok(()) => writeln!(output, "ok"),
+        Err(fault) => writeln!(output, "fault,{fault}"),
     }
 }
 
-fn read_text(heap: Global, word: &str) -> Result<String, AllocError> {
-    match hex::decode(heap, word.as_bytes())? {
-        Some(bytes) => check_text(heap, bytes.as_slice()),
-        None => String::from_str(heap, BAD),
+// The code of a number, which goes out to a buffer.
+fn tell_code(heap: Global, output: &mut impl Write, number: impl Integer) -> io::Result<()> {
+    let mut buf = [0; LONGEST];
+    let mut sink = BufferSink::new(&mut buf);
+    match put_leb128(&mut sink, number) {
+        Ok(()) => writeln!(output, "{}", hex::encode(heap, sink.filled())?),
+        Err(SinkRefused) => writeln!(output, "refused"),
     }
 }

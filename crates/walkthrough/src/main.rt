@@ -9,46 +9,55 @@ mod list;
 // printing bytes
 mod show;
 
-use codec::element::fault::ElementFault;
 use codec::element::text::Text;
 use codec::element::{Decodable, put_element};
 use codec::encoding::buffer::BufferSink;
 use codec::encoding::check::CheckSink;
 use codec::encoding::counter::Counter;
-use codec::encoding::{Output, Sink};
-use codec::parse::fault::NumberFault;
-use codec::parse::leb128::{leb128_i64, leb128_u64};
+use codec::encoding::{Output, Sink, SinkRefused};
+use codec::integer::Integer;
+use codec::parse::leb128::read_leb128;
+use codec::refusal::{Fault, Refusal};
 use list::{read_list, write_list};
 use show::hex;
+use std::fmt::Display;
 
 const NUMBERS: [u64; 4] = [5, 127, 128, 300];
 
 const OTHERS: [u64; 4] = [5, 127, 129, 300];
 
+// Codes of unsigned and of signed numbers: a good one first, then damaged ones.
+const UNSIGNED: [&[u8]; 4] = [
+    &[0xac, 0x02, 0x05],
+    &[0xac],
+    &[0xac, 0x82, 0x00],
+    &[0xff, 0xff, 0xff, 0xff, 0xff, 0xff, 0xff, 0xff, 0xff, 0x02],
+];
+
+const SIGNED: [&[u8]; 2] = [&[0xbf, 0x7f], &[0xff, 0x7f]];
+
 // How many bytes the list takes: the writer, told to an output that only counts.
 fn measure(rt: &HostRuntime) -> anyhow::Result<()> {
     let mut counter = Counter::new();
     println!(rt; "The numbers 5, 127, 128 and 300 are to be written.")?;
-    if write_list(&mut counter, &NUMBERS).is_ok() {
-        println!(rt; "Counted first, they take {} bytes.", counter.told())?;
-    }
+    write_list(&mut counter, &NUMBERS)?;
+    println!(rt; "Counted first, they take {} bytes.", counter.told())?;
     Ok(())
 }
 
 // Writes the list to a buffer that has room, shows its bytes, and reads it back.
 fn there_and_back(rt: &HostRuntime) -> anyhow::Result<()> {
-    let heap = rt.alloc();
     let mut buf = [0; 16];
     let mut sink = BufferSink::new(&mut buf);
-    if write_list(&mut sink, &NUMBERS).is_ok() {
-        println!(rt;
-            "A buffer of 16 bytes takes them all: {}.",
-            hex(heap, sink.filled())?
-        )?;
-    }
-    println!(rt; "Read back, these are {}.", read_list(heap, sink.filled())?)?;
-    compare(rt, sink.filled(), &NUMBERS, "the same numbers")?;
-    compare(rt, sink.filled(), &OTHERS, "5, 127, 129 and 300")
+    write_list(&mut sink, &NUMBERS)?;
+    let bytes = sink.filled();
+    println!(rt;
+        "A buffer of 16 bytes takes them all: {}.",
+        hex(rt.alloc(), bytes)?
+    )?;
+    println!(rt; "Read back, these are {}.", read_list(rt.alloc(), bytes)?)?;
+    compare(rt, bytes, &NUMBERS, "the same numbers")?;
+    compare(rt, bytes, &OTHERS, "5, 127, 129 and 300")
 }
 
 // Writes a list against bytes that are there already.
@@ -56,7 +65,7 @@ fn compare(rt: &HostRuntime, bytes: &[u8], numbers: &[u64], name: &str) -> anyho
     let mut check = CheckSink::new(bytes);
     match write_list(&mut check, numbers) {
         Ok(()) => println!(rt; "Compared with {name}, they agree.")?,
-        Err(_) => println!(rt;
+        Err(SinkRefused) => println!(rt;
             "Compared with {name}, they part after {} bytes.",
             check.count()
         )?,
@@ -66,7 +75,6 @@ fn compare(rt: &HostRuntime, bytes: &[u8], numbers: &[u64], name: &str) -> anyho
 
 // The same list into a buffer that is too short.
 fn full_buffer(rt: &HostRuntime) -> anyhow::Result<()> {
-    let heap = rt.alloc();
     let mut buf = [0; 5];
     let mut sink = BufferSink::new(&mut buf);
     if let Err(refused) = write_list(&mut sink, &NUMBERS) {
@@ -77,75 +85,56 @@ fn full_buffer(rt: &HostRuntime) -> anyhow::Result<()> {
     }
     println!(rt;
         "It holds the longest beginning that it took: {}.",
-        hex(heap, sink.filled())?
+        hex(rt.alloc(), sink.filled())?
     )?;
     Ok(())
-}
-
-// A number that was read of bytes, told in one line.
-fn tell(rt: &HostRuntime, bytes: &[u8], number: i128, used: usize) -> anyhow::Result<()> {
-    println!(rt;
-        "{} is {number}, from {used} of its bytes.",
-        hex(rt.alloc(), bytes)?
-    )?;
-    Ok(())
-}
-
-// The same of a refusal.
-fn tell_fault(rt: &HostRuntime, bytes: &[u8], fault: NumberFault) -> anyhow::Result<()> {
-    let number = fault.number();
-    let cause = fault.cause();
-    println!(rt;
-        "{} is refused as {number}: {cause}.",
-        hex(rt.alloc(), bytes)?
-    )?;
-    Ok(())
-}
-
-fn read_unsigned(rt: &HostRuntime, bytes: &[u8]) -> anyhow::Result<()> {
-    match leb128_u64(bytes) {
-        Ok((number, used)) => tell(rt, bytes, i128::from(number), used),
-        Err(fault) => tell_fault(rt, bytes, fault),
-    }
-}
-
-fn read_signed(rt: &HostRuntime, bytes: &[u8]) -> anyhow::Result<()> {
-    match leb128_i64(bytes) {
-        Ok((number, used)) => tell(rt, bytes, i128::from(number), used),
-        Err(fault) => tell_fault(rt, bytes, fault),
-    }
 }
 
 // Good bytes, and damaged ones.
 fn damaged(rt: &HostRuntime) -> anyhow::Result<()> {
     println!(rt; "Bytes that arrive may be damaged. Unsigned:")?;
-    read_unsigned(rt, &[0xac, 0x02, 0x05])?;
-    read_unsigned(rt, &[0xac])?;
-    read_unsigned(rt, &[0xac, 0x82, 0x00])?;
-    read_unsigned(
-        rt,
-        &[0xff, 0xff, 0xff, 0xff, 0xff, 0xff, 0xff, 0xff, 0xff, 0x02],
-    )?;
+    for bytes in UNSIGNED {
+        tell_number::<u64>(rt, bytes)?;
+    }
     println!(rt; "And signed:")?;
-    read_signed(rt, &[0xbf, 0x7f])?;
-    read_signed(rt, &[0xff, 0x7f])
+    for bytes in SIGNED {
+        tell_number::<i64>(rt, bytes)?;
+    }
+    Ok(())
+}
+
+// The number that bytes start with, or why it is refused.
+fn tell_number<N: Integer + Display>(rt: &HostRuntime, bytes: &[u8]) -> anyhow::Result<()> {
+    match read_leb128::<N>(bytes) {
+        Ok((number, used)) => println!(rt;
+            "{} is {number}, from {used} of its bytes.",
+            hex(rt.alloc(), bytes)?
+        )?,
+        Err(fault) => tell_fault(rt, bytes, fault)?,
+    }
+    Ok(())
+}
+
+// Why bytes were refused.
+fn tell_fault(rt: &HostRuntime, bytes: &[u8], fault: impl Fault) -> anyhow::Result<()> {
+    println!(rt;
+        "{} is refused as {}: {}.",
+        hex(rt.alloc(), bytes)?,
+        fault.number(),
+        fault.cause()
+    )?;
+    Ok(())
 }
 
 // A text goes out as an element: the length of its bytes, and the bytes.
 fn text_out(rt: &HostRuntime, words: &str) -> anyhow::Result<()> {
-    let heap = rt.alloc();
-    let mut text = Text::blank();
-    if let Err(fault) = text.fill(words.as_bytes()) {
-        return tell_element(rt, words.as_bytes(), fault);
-    }
     let mut buf = [0; 16];
     let mut sink = BufferSink::new(&mut buf);
-    if put_element(&mut sink, &text).is_ok() {
-        println!(rt;
-            "The text {words} goes out as {}.",
-            hex(heap, sink.filled())?
-        )?;
-    }
+    put_element(&mut sink, &Text::from(words))?;
+    println!(rt;
+        "The text {words} goes out as {}.",
+        hex(rt.alloc(), sink.filled())?
+    )?;
     text_in(rt, sink.filled())
 }
 
@@ -154,18 +143,8 @@ fn text_in(rt: &HostRuntime, bytes: &[u8]) -> anyhow::Result<()> {
     let mut text = Text::blank();
     match text.decode(bytes) {
         Ok(used) => println!(rt; "Read back, it is {}, from {used} bytes.", text.as_str())?,
-        Err(fault) => tell_element(rt, bytes, fault)?,
+        Err(fault) => tell_fault(rt, bytes, fault)?,
     }
-    Ok(())
-}
-
-fn tell_element(rt: &HostRuntime, bytes: &[u8], fault: ElementFault) -> anyhow::Result<()> {
-    let number = fault.number();
-    let cause = fault.cause();
-    println!(rt;
-        "{} is refused as {number}: {cause}.",
-        hex(rt.alloc(), bytes)?
-    )?;
     Ok(())
 }
 

@@ -3,34 +3,31 @@ ghost use Rattle.std.specs.Prelude.{◌≡◌, ℕ, ◌^◌};
 ghost use Rattle.bench.specs.Lists.{masked, masked_few};
 
 use crate::masked::Masked;
-use codec::element::number::Unsigned;
-use columns::rle::source::{Arrival, Source};
+use columns::rle::source::Source;
 
 impl<'t> Masked<'t> {
-    pub(crate) fn new(values: &'t [u64], nulls: &'t [u8]) -> Masked<'t> {
+    pub(crate) fn new(values: &'t [u64], nulls: &'t [u8]) -> Masked<'t>
+        ensures { (result.values.now ≡ values.now) × (result.nulls.now ≡ nulls.now) }
+    {
         Masked { values, nulls }
     }
 }
 
-impl<'a, 't> Source<'a, Unsigned> for Masked<'t> {
+impl<'t> Source for Masked<'t> {
+    type Entry = Option<u64>;
+
     ghost list = { λ s. masked s.values.now s.nulls.now };
 
     ghost few = { λ s. masked_few s.values.now s.nulls.now s.short };
 
-    fn next(&mut self, place: &mut Unsigned) -> Arrival {
+    fn next(&mut self) -> Option<Option<u64>> {
         let [value, values @ ..] = self.values else {
-            return Arrival::End;
+            return None;
         };
         let [null, nulls @ ..] = self.nulls else {
-            return Arrival::End;
+            return None;
         };
-        let value = *value;
-        let is_null = *null == 1;
         *self = Masked { values, nulls };
-        if is_null {
-            return Arrival::Null;
-        }
-        *place = Unsigned { value };
-        Arrival::Element
+        Some(if *null == 1 { None } else { Some(*value) })
     }
 }

@@ -1,46 +1,53 @@
 // Texts as a list to be written. What is no text of the pool is a null.
-ghost use Rattle.std.specs.Prelude.{◌≡◌, ℕ, ◌^◌, if◌then◌else◌, Some, None};
+ghost use Rattle.std.specs.Prelude.{◌≡◌, ℕ, ◌^◌};
+ghost use Rattle.std.specs.Option.{option_map};
 ghost use Rattle.codec.specs.Elements.{text_code};
 ghost use Rattle.bench.specs.Lists.{text_at, spanned, spanned_few};
 
-use crate::spans::Spans;
+use crate::spans::{Span, Spans};
+use codec::element::Decodable;
 use codec::element::text::Text;
-use columns::rle::source::{Arrival, Source};
+use columns::rle::source::{Entry, Source};
 
 impl<'a> Spans<'a> {
-    pub(crate) fn new(pool: &'a [u8], spans: &'a [u64]) -> Spans<'a> {
+    pub(crate) fn new(pool: &'a [u8], spans: &'a [u64]) -> Spans<'a>
+        ensures { (result.pool.now ≡ pool.now) × (result.spans.now ≡ spans.now) }
+    {
         Spans { pool, spans }
     }
 }
 
-// Puts the text of the pool into the place, if there is one.
-fn text_at<'a>(pool: &'a [u8], start: u64, end: u64, place: &mut Text<'a>) -> bool
-    ensures { text_at pool.now start end ≡ (if result then Some (text_code place.new.part.now) else None) }
-{
-    if start <= end && end <= pool.len() as u64 {
-        place.fill(&pool[start as usize..end as usize]).is_ok()
-    } else {
-        false
+impl<'a> Entry<'a, Text<'a>> for Span<'a> {
+    ghost code = { λ s. option_map text_code (text_at s.pool.now s.start s.end) };
+
+    fn element(self) -> Option<Text<'a>> {
+        if self.start > self.end || self.end > self.pool.len() as u64 {
+            return None;
+        }
+        let mut text = Text::blank();
+        text.fill(&self.pool[self.start as usize..self.end as usize])
+            .ok()?;
+        Some(text)
     }
 }
 
-impl<'a> Source<'a, Text<'a>> for Spans<'a> {
-    ghost list = { λ s. spanned s.pool.now s.spans.now };
+impl<'a> Source for Spans<'a> {
+    type Entry = Span<'a>;
 
-    ghost few = { λ s. spanned_few s.pool.now s.spans.now s.short };
+    ghost list = { λ s. spanned (λ start end. record { pool = s.pool; start = start; end = end }) s.spans.now };
 
-    fn next(&mut self, place: &mut Text<'a>) -> Arrival {
+    ghost few = { λ s. spanned_few (λ start end. record { pool = s.pool; start = start; end = end }) s.spans.now s.short };
+
+    fn next(&mut self) -> Option<Span<'a>> {
         let [start, end, spans @ ..] = self.spans else {
-            return Arrival::End;
+            return None;
         };
-        let start = *start;
-        let end = *end;
         let pool = self.pool;
         *self = Spans { pool, spans };
-        if text_at(pool, start, end, place) {
-            Arrival::Element
-        } else {
-            Arrival::Null
-        }
+        Some(Span {
+            pool,
+            start: *start,
+            end: *end,
+        })
     }
 }

@@ -1,10 +1,9 @@
 use Rattle.std.proofs.Common.{refl}
-use Rattle.codec.specs.Elements.{reads_unsigned, reads_signed}
 use Rattle.codec.specs.Leb128.{groups, uleb, sleb, read_unsigned, read_signed}
 use Rattle.examples.proofs.columns.Goals as goal
 
 pub returns : goal.returns
-unfolding groups uleb sleb read_unsigned read_signed reads_unsigned reads_signed
+unfolding groups uleb sleb read_unsigned read_signed
 returns c =
     record {
       run = refl;

@@ -1,26 +1,20 @@
-use Rattle.std.proofs.Common.{ℕ, ◌+◌, List, get_or, drop, sym, ap, ◌∙◌}
-use Rattle.std.proofs.lemmas.List.{drop_more, at_drop_all}
+use Rattle.std.proofs.Common.{◌≡◌, ℕ, ◌+◌, ◌<◌, List, ◌++◌, length, get_or, drop, ap}
+use Rattle.std.proofs.lemmas.List.{drop_more}
 use Rattle.std.specs.List.{flat_map}
-use Rattle.codec.specs.Feed.{fed}
 use Rattle.codec.specs.Leb128.{uleb}
 use Rattle.codec.proofs.Feeds.{fed_on, fed_stop}
 use Rattle.walkthrough.proofs.list.write_list.Goals as goal
 
-pub returns-in_err-write_uleb : goal.returns-in_err-write_uleb
-returns-in_err-write_uleb g c =
-    let ns = c.args.numbers.now in
-    let i = c.loop-number.number-index in
-    let parts = ap (flat_map uleb) (drop_more ns i 0 c.loop-number-test.true) in
-    record { is = fed_stop (flat_map uleb (drop i ns)) (uleb (get_or ns i 0)) (flat_map uleb (drop (i + 1) ns)) c.loop-number.invariant parts c.from_residual.result c.from_residual.ensures.0 c.in_err-write_uleb.ensures.wrote }
+-- the codes that are left are the next number's, and then those behind it
+codes : (ns : List ℕ) (i : ℕ) → i < length ns → flat_map uleb (drop i ns) ≡ uleb (get_or ns i 0) ++ flat_map uleb (drop (i + 1) ns)
+codes ns i some = ap (flat_map uleb) (drop_more ns i 0 some)
+
+pub returns-in_err-write_leb128 : goal.returns-in_err-write_leb128
+returns-in_err-write_leb128 g c =
+    let parts = codes c.args.numbers.now c.loop-number.number-index c.loop-number-test.true in
+    record { is = fed_stop _ _ _ c.loop-number.invariant parts c.from_residual.result c.from_residual.ensures.0 c.in_err-write_leb128.ensures.wrote }
 
 pub loop-number-preserved : goal.loop-number-preserved
 loop-number-preserved g c =
-    let ns = c.args.numbers.now in
-    let i = c.loop-number.number-index in
-    let parts = ap (flat_map uleb) (drop_more ns i 0 c.loop-number-test.true) in
-    fed_on (flat_map uleb (drop i ns)) (uleb (get_or ns i 0)) (flat_map uleb (drop (i + 1) ns)) c.loop-number.invariant parts c.in_ok-write_uleb.ensures.wrote
-
-pub returns : goal.returns
-returns g c =
-    let o = g.O.Output in
-    record { is = sym c.loop-number.invariant ∙ at_drop_all (λ (l : List ℕ). fed o.takes o.step (o.state c.loop-number.out) (flat_map uleb l)) c.args.numbers.now c.loop-number.number-index c.loop-number-test.false }
+    let parts = codes c.args.numbers.now c.loop-number.number-index c.loop-number-test.true in
+    fed_on _ _ _ c.loop-number.invariant parts c.in_ok-write_leb128.ensures.wrote
