@@ -1,6 +1,6 @@
 -- Laws of feeding an output, and what they say at a sink and at a counter.
-use Rattle.std.proofs.Common.{◌≡◌, ℕ, suc, ◌+◌, ◌-◌, ◌^◌, ◌<◌, ◌≤◌, Bool, true, false, cond, ltb, List, [], ◌∷◌, ◌++◌, length, take, drop, is_ok, is_err, IsErrAnd, Ok, Err, Result, sym, refl, ap, ◌∙◌, ⊎_elim, append_assoc, add-zero, arith, length-append, MatchResult}
-use Rattle.std.proofs.lemmas.List.{append-nil, take_all, drop-drop}
+use Rattle.std.proofs.Common.{◌≡◌, ℕ, suc, ◌+◌, ◌-◌, ◌^◌, ◌<◌, ◌≤◌, Bool, true, false, cond, ltb, List, [], ◌∷◌, ◌++◌, length, take, drop, is_ok, is_err, IfOk, Ok, Err, Result, sym, refl, ap, ◌∙◌, ⊎_elim, append_assoc, add-zero, arith, length-append}
+use Rattle.std.proofs.lemmas.List.{append-nil, take_all, drop-drop, drop_at}
 use Rattle.std.proofs.lemmas.Bool.{false≢true, lt-ltb, le-ltb, cases_lt, cond-true, cond-false}
 use Rattle.codec.specs.Feed.{fed, Fed, countable, counted}
 use Rattle.codec.specs.Sinks.{Rule, Holding, holding, says, more, beginning, Told, roomy}
@@ -35,19 +35,9 @@ fed_exit {S} {takes} {step} {s} {a = a} b (Err x) e first =
     let onward : Bool × S → Bool × S = λ q. cond q.0 (fed takes step q.1 b) q in
     record { is = fed_append takes step s a b ∙ ap onward first.is }
 
--- the same at the last call
-pub fed_last : {S : Type 0} {takes : S → ℕ → Bool} {step : S → ℕ → S} {s t : S} {a : List ℕ} {T E : Type 0} (r : Result T E) → is_err r ≡ true → Fed takes step s a false t → Fed takes step s a (is_ok r) t
-fed_last (Ok x) e first = absurd (false≢true e)
-fed_last (Err x) e first = first
-
 -- the same bytes by another name
 pub fed_same : {S : Type 0} {takes : S → ℕ → Bool} {step : S → ℕ → S} {s t : S} {a b : List ℕ} {ok : Bool} → a ≡ b → Fed takes step s a ok t → Fed takes step s b ok t
 fed_same {S} {takes} {step} {s} {t} {a} {b} {ok} e f = record { is = ap (fed takes step s) (sym e) ∙ f.is }
-
--- what is returned there, by the `From` of its error
-pub refused_as : {T E : Type 0} (P : T → Type 0) (Q : E → Type 0) (r : Result T E) → IsErrAnd r Q → MatchResult r P Q
-refused_as P Q (Ok x) e = absurd e
-refused_as P Q (Err y) e = e
 
 -- A loop that writes keeps this: what is left to write, from here, comes to what all of it comes to, from the start.
 -- Each turn writes a of what is left, and then b is left.
@@ -114,6 +104,21 @@ at_sink {K} {rule} {s} {t} {bs} {ok} e =
       whole = λ o. d.1 (sym was ∙ o);
       refused = λ o. let n = d.2 (sym was ∙ o) in (n.0, n.1, n.2, ap (λ (h : Holding K). rule s.kept h.held n.0) is ∙ n.3);
     }
+
+-- what holds in any case holds where a call was not refused
+pub made_when : {X Y : Type 0} (r : Result X Y) (Q : Type 0) → Q → IfOk r (λ _. Q)
+made_when (Ok x) Q q = q
+made_when (Err y) Q q = tt
+
+-- what all was taken of stands behind what the sink held
+pub behind_held : {K : Type 0} {rule : K → Rule} {s t : Holding K} {bytes : List ℕ} → Told rule s bytes true t → drop (length s.held) t.held ≡ bytes
+behind_held {K} {rule} {s} {t} {bytes} told =
+    ap (drop (length s.held)) (told.holds ∙ ap (λ (taken : List ℕ). s.held ++ taken) (told.whole refl)) ∙ drop_at s.held bytes (length s.held) refl
+
+-- so what holds wherever the bytes stand at the end of data holds there
+pub put_back : {K X Y : Type 0} {rule : K → Rule} {s t : Holding K} {bytes : List ℕ} (r : Result X Y) (P : List ℕ → ℕ → Type 0) → Told rule s bytes (is_ok r) t → IfOk r (λ _. (d : List ℕ) (p : ℕ) → drop p d ≡ bytes → P d p) → IfOk r (λ _. P t.held (length s.held))
+put_back {s = s} {t = t} (Ok x) P told law = law t.held (length s.held) (behind_held told)
+put_back (Err y) P told law = tt
 
 -- what a writer's contract says at a counter with room
 counter_fed : (n : ℕ) (bs : List ℕ) → n + length bs < 2 ^ 64 → fed countable counted n bs ≡ (true, n + length bs)

@@ -5,4 +5,3 @@ pub mod Readers
 pub mod Tables
 pub mod Chars
 pub mod Grammar
-pub mod Decodes

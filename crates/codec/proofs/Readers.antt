@@ -158,7 +158,10 @@ returns_read k reading n f =
     record { code = r.code; alone = r.alone; some = r.some; few = r.few; back = λ rest. reading _ ∙ r.back rest }
 
 -- what a reader answers where the groups have this sign and these bits
-module _ {N : Type 0} {top : ℕ} {value : List ℕ → N} {fits : N → Bool} {code : N → List ℕ} {number : Bool → ℕ → N} (s : Spelling top value fits code number) (k : Coding value fits code) (bytes : List ℕ) (low last used : ℕ) (few : used ≤ 10) (found : Found bytes low last used) (negative : Bool) (m : ℕ) (split : Split top (worth low last used) used negative m) where
+module _ {N : Type 0} {top : ℕ} {value : List ℕ → N} {fits : N → Bool} {code : N → List ℕ} {number : Bool → ℕ → N} (s : Spelling top value fits code number) (k : Coding value fits code) (bytes : List ℕ) (low last used : ℕ) (few : used ≤ 10) (found : Found bytes low last used) (negative : Bool) (m t : ℕ) (same : t ≡ top) (taken : Split t (worth low last used) used negative m) where
+  split : Split top (worth low last used) used negative m
+  split = subst (λ (k : ℕ). Split k (worth low last used) used negative m) same taken
+
   there : (value (take used bytes) ≡ number negative m) × (negative ≡ true → top ≡ 64)
   there = split_value s (take used bytes) (worth low last used) used m found.value found.ended.count negative split
 

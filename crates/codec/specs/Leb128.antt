@@ -93,7 +93,7 @@ unfoldable pub read_signed : List ℕ → Result (ℤ × ℕ) NumberFault
 read_signed bytes = number_at signed fits_i64 sleb bytes
 
 -- What a reader answers, by the number that its value means.
-abbrev pub read_as : {T N : Type 0} → (T → N) → Result (T × ℕ) NumberFault → Result (N × ℕ) NumberFault
+abbrev pub read_as : {T N F : Type 0} → (T → N) → Result (T × ℕ) F → Result (N × ℕ) F
 read_as means (Ok p) = Ok (means p.0, p.1)
 read_as means (Err fault) = Err fault
 

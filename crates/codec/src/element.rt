@@ -45,7 +45,8 @@ pub trait Decodable<'a>: Copy {
         ensures { means result ≡ first };
 
     // Reads the element that the bytes start with into this place, and answers how many bytes its
-    // code takes; or answers the cause, and the place is unchanged.
+    // code takes; or answers the cause, and the place is unchanged. A place, and no pair that is
+    // handed out, is a rule of the project for every kind.
     fn decode(&mut self, bytes: &'a [u8]) -> Result<usize, ElementFault>
         ensures answer { result ≡ used (reads bytes.now) }
         ensures place { means self.new ≡ filled (reads bytes.now) (means self.old) }

@@ -36,7 +36,8 @@ impl fmt::Display for SinkRefused {
 impl std::error::Error for SinkRefused {}
 
 // Where a writer writes: a state, whether a byte is taken in it, and the next state. Every sink is
-// one, and so is a counter.
+// one, and so is a counter. Each writer's clause names all three: the laws of feeding speak of them
+// apart, and one name for them would have to be handed the output before and after just the same.
 pub trait Output {
     ghost State: { Type 0 };
 

@@ -6,7 +6,7 @@ use crate::element::fault::ElementFault;
 use crate::encoding::SinkRefused;
 use crate::parse::fault::NumberFault;
 
-// Why something is refused, by a number.
+// Why something is refused, by the number that the rules give it.
 pub trait Refusal: Copy {
     ghost number_of: { Self → ℕ };
 

@@ -27,7 +27,7 @@ impl From<NumberFault> for ElementFault {
     }
 }
 
-// A fault is shown as its cause.
+// A fault is shown as its cause; by hand, since a derive would have the words a second time.
 impl fmt::Display for ElementFault {
     ghost output = { λ fault. Some (element_cause fault) };
 

@@ -18,7 +18,7 @@ pub struct Number<N: Integer> {
     ghost fits: { N.fits (N.means value) ≡ true },
 }
 
-// A derive does not take a generic struct with a ghost field.
+// By hand, since `Clone` is not derived for a generic struct with a ghost field.
 impl<N: Integer> Clone for Number<N> {
     ghost is_clone = { λ x y. y ≡ x };
 

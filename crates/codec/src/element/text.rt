@@ -12,7 +12,8 @@ use crate::encoding::{Output, SinkRefused, append};
 use crate::parse::leb128::read_leb128;
 use crate::parse::utf8::is_utf8;
 
-// A text: a part of bytes that live for 'a. It is made empty, and filled only by the UTF-8 check.
+// A text: a part of bytes that live for 'a. It is made empty or of the
+// language's own text, and filled with bytes only by the UTF-8 check.
 #[derive(Clone, Copy, Debug, PartialEq, Eq, PartialOrd, Ord)]
 pub struct Text<'a> {
     part: &'a [u8],

@@ -4,7 +4,8 @@ ghost use Rattle.codec.specs.Sinks.{holding, roomy};
 
 use crate::encoding::{Sink, SinkRefused};
 
-// It holds the first `len` bytes of the buffer, and says yes exactly while there is a free place.
+// It holds the first `len` bytes of the buffer, and says yes exactly while there is a free place. The
+// memory is lent, so that it is a slice with a length beside it and no vector.
 #[derive(Drop)]
 pub struct BufferSink<'a> {
     buf: &'a mut [u8],

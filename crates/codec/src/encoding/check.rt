@@ -4,7 +4,8 @@ ghost use Rattle.codec.specs.Sinks.{holding, expecting};
 
 use crate::encoding::{Sink, SinkRefused};
 
-// It holds the first `len` of the expected bytes, and says yes exactly to the next expected one.
+// It holds the first `len` of the expected bytes, and says yes exactly to the next expected one. Two
+// slices in place of the length would need an invariant that they are parts of one.
 #[derive(Drop)]
 pub struct CheckSink<'a> {
     expected: &'a [u8],
@@ -29,6 +30,7 @@ impl Sink for CheckSink<'_> {
 
     ghost rule = { expecting };
 
+    // In the form of the buffer sink, which stores the byte besides.
     fn put(&mut self, byte: u8) -> Result<(), SinkRefused> {
         if self.accepts(byte) {
             self.len += 1;

@@ -7,12 +7,14 @@ ghost use Rattle.codec.specs.Leb128.{group, groups, Returns};
 use crate::encoding::{Output, Sink, SinkRefused};
 use crate::integer::{Bits, Integer};
 
-// The seven bits of a group, all inverted for a negative number.
-fn seven_bits(bits: u8, negative: bool) -> u8
-    requires { bits < 128 }
-    ensures { result ≡ group negative bits }
-{
-    if negative { 127 - bits } else { bits }
+impl Bits {
+    // Seven of the bits as a group, all inverted for a negative number.
+    fn group(self, seven: u8) -> u8
+        requires { seven < 128 }
+        ensures { result ≡ group self.negative seven }
+    {
+        if self.negative { 127 - seven } else { seven }
+    }
 }
 
 // The groups of a number, the lowest first, up to the first that is below `top` and has none behind
@@ -21,13 +23,12 @@ fn write_groups<O: Output>(out: &mut O, bits: Bits, top: u64) -> Result<(), Sink
     requires { (0 < top) × (top ≤ 128) }
     ensures { Fed O.takes O.step (O.state out.old) (groups top bits.negative bits.magnitude) (is_ok result) (O.state out.new) }
 {
-    let negative = bits.negative;
     let mut rest = bits.magnitude;
     while rest >= top {
-        out.tell(128 + seven_bits((rest % 128) as u8, negative))?;
+        out.tell(128 + bits.group((rest % 128) as u8))?;
         rest /= 128;
     }
-    out.tell(seven_bits(rest as u8, negative))
+    out.tell(bits.group(rest as u8))
 }
 
 // The number in its shortest form.

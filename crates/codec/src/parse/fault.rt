@@ -16,7 +16,7 @@ pub enum NumberFault {
     Overlong,
 }
 
-// A fault is shown as its cause.
+// A fault is shown as its cause; by hand, since a derive would have the words a second time.
 impl fmt::Display for NumberFault {
     ghost output = { λ fault. Some (cause_of fault) };
 

@@ -10,7 +10,7 @@ pub(crate) fn char_len(first: u8) -> Option<usize>
     (len != 0).then_some(len)
 }
 
-// The same for every byte, 0 where none starts, in order: 00 to 7F, 80 to C1, C2 to DF, E0 to EF, F0 to F4, F5 to FF.
+// The same for every byte, in order, with 0 where none starts, which is a rule for this table: 00 to 7F, 80 to C1, C2 to DF, E0 to EF, F0 to F4, F5 to FF.
 const FIRST: [u8; 256] = [
     1, 1, 1, 1, 1, 1, 1, 1, 1, 1, 1, 1, 1, 1, 1, 1, 1, 1, 1, 1, 1, 1, 1, 1, 1, 1, 1, 1, 1, 1, 1, 1,
     1, 1, 1, 1, 1, 1, 1, 1, 1, 1, 1, 1, 1, 1, 1, 1, 1, 1, 1, 1, 1, 1, 1, 1, 1, 1, 1, 1, 1, 1, 1, 1,

@@ -1,7 +1,6 @@
 use Rattle.std.proofs.Common.{ℕ, ◌-◌, ◌*◌, ◌^◌, ◌<◌, ◌≤◌, Err, refl, ap, ◌∙◌, subst, arith}
 use Rattle.std.proofs.lemmas.Nat.{mul-le}
 use Rattle.std.proofs.lemmas.Result.{err_from_is_err_and}
-use Rattle.codec.specs.Frames.{worth, Split}
 use Rattle.codec.specs.Laws.Powers.{pow_most}
 use Rattle.codec.specs.Laws.Spelling.{either_some}
 use Rattle.codec.proofs.Readers.{answered_none, bits_large, bits_over, bits_ok, reads_fault, reads_ok}
@@ -20,8 +19,7 @@ returns-in_default g c =
     let n = g.N.Integer in
     let f = c.in_ok-frame.frame in
     let none = c.in_default.ensures in
-    let split = subst (λ (t : ℕ). Split t (worth f.low f.last f.used) f.used none.0 none.1) c.TOP.ensures none.2 in
-    let a = reads_fault n.means n.code n.reading c.args.bytes.now _ (Err _) refl (bits_large n.spelling n.coding c.args.bytes.now f.low f.last f.used f.few c.in_ok-frame.ensures none.0 none.1 split (n.spelling.large none.0 none.1 none.3)) in
+    let a = reads_fault n.means n.code n.reading c.args.bytes.now _ (Err _) refl (bits_large n.spelling n.coding c.args.bytes.now f.low f.last f.used f.few c.in_ok-frame.ensures none.0 none.1 c.TOP.result c.TOP.ensures none.2 (n.spelling.large none.0 none.1 none.3)) in
     record { answer = a.answer; exact = a.exact; used = a.used }
 
 pub returns-in_default-from_bits : goal.returns-in_default-from_bits
@@ -29,8 +27,7 @@ returns-in_default-from_bits g c =
     let n = g.N.Integer in
     let f = c.in_ok-frame.frame in
     let b = c.in-Some in
-    let split = subst (λ (t : ℕ). Split t (worth f.low f.last f.used) f.used b.bits.negative b.bits.magnitude) c.TOP.ensures b.ensures in
-    let a = reads_fault n.means n.code n.reading c.args.bytes.now _ (Err _) refl (bits_large n.spelling n.coding c.args.bytes.now f.low f.last f.used f.few c.in_ok-frame.ensures b.bits.negative b.bits.magnitude split c.in_default-from_bits.ensures) in
+    let a = reads_fault n.means n.code n.reading c.args.bytes.now _ (Err _) refl (bits_large n.spelling n.coding c.args.bytes.now f.low f.last f.used f.few c.in_ok-frame.ensures b.bits.negative b.bits.magnitude c.TOP.result c.TOP.ensures b.ensures c.in_default-from_bits.ensures) in
     record { answer = a.answer; exact = a.exact; used = a.used }
 
 pub at_place-requires : goal.at_place-requires
@@ -46,9 +43,8 @@ returns-then-bits-at_place g c =
     let n = g.N.Integer in
     let f = c.in_ok-frame.frame in
     let b = c.in-Some in
-    let split = subst (λ (t : ℕ). Split t (worth f.low f.last f.used) f.used b.bits.negative b.bits.magnitude) c.TOP.ensures b.ensures in
     let few : b.bits.magnitude < n.TOP * 128 ^ (f.used - 2) = subst (λ (k : ℕ). b.bits.magnitude < k) (c.at_place.ensures ∙ ap (λ (t : ℕ). t * 128 ^ (f.used - 2)) c.TOP-then-frame-gt1.ensures) c.if-bits-at_place.true in
-    let a = reads_fault n.means n.code n.reading c.args.bytes.now _ (Err _) refl (bits_over n.spelling n.coding c.args.bytes.now f.low f.last f.used f.few c.in_ok-frame.ensures b.bits.negative b.bits.magnitude split c.in-Some-from_bits.ensures.1 c.if-frame-gt1.true few) in
+    let a = reads_fault n.means n.code n.reading c.args.bytes.now _ (Err _) refl (bits_over n.spelling n.coding c.args.bytes.now f.low f.last f.used f.few c.in_ok-frame.ensures b.bits.negative b.bits.magnitude c.TOP.result c.TOP.ensures b.ensures c.in-Some-from_bits.ensures.1 c.if-frame-gt1.true few) in
     record { answer = a.answer; exact = a.exact; used = a.used }
 
 pub returns : goal.returns
@@ -57,12 +53,11 @@ returns g c =
     let f = c.in_ok-frame.frame in
     let b = c.in-Some in
     let x = c.in-Some-from_bits in
-    let split = subst (λ (t : ℕ). Split t (worth f.low f.last f.used) f.used b.bits.negative b.bits.magnitude) c.TOP.ensures b.ensures in
     let least : 1 < f.used → n.TOP * 128 ^ (f.used - 2) ≤ b.bits.magnitude =
     λ more. elim c.else-frame-gt1.branch [
       | else-frame-gt1-via-then-frame-gt1+else-bits-at_place w ↦ subst (λ (k : ℕ). k ≤ b.bits.magnitude) (w.at_place.ensures ∙ ap (λ (t : ℕ). t * 128 ^ (f.used - 2)) w.TOP-then-frame-gt1.ensures) w.if-bits-at_place.false
       | else-frame-gt1-via-else-frame-gt1 w ↦ absurd (omega (arith, more, w.if-frame-gt1.false))
     ]
     in
-    let a = reads_ok n.means n.code n.reading c.args.bytes.now x.number f.used _ x.ensures.0 (bits_ok n.spelling n.coding c.args.bytes.now f.low f.last f.used f.few c.in_ok-frame.ensures b.bits.negative b.bits.magnitude split x.ensures.1 least) in
+    let a = reads_ok n.means n.code n.reading c.args.bytes.now x.number f.used _ x.ensures.0 (bits_ok n.spelling n.coding c.args.bytes.now f.low f.last f.used f.few c.in_ok-frame.ensures b.bits.negative b.bits.magnitude c.TOP.result c.TOP.ensures b.ensures x.ensures.1 least) in
     record { answer = a.answer; exact = a.exact; used = a.used }
