@@ -1,11 +1,12 @@
 -- What is written is read back.
-use Rattle.std.proofs.Common.{◌≡◌, ℕ, zero, suc, ◌+◌, ◌-◌, ◌^◌, ◌<◌, ◌≤◌, true, false, cond, eqb, ltb, leb, List, [], ◌∷◌, ◌++◌, map, length, drop, replicate, ℤ, pos, negsuc, Some, None, Ok, Err, Decides, Option, sym, refl, ap, ◌∙◌, subst, append_assoc, add-zero, arith, length-append, length-drop, drop-drop, ne_eqb, le-leb}
+use Rattle.std.proofs.Common.{◌≡◌, ℕ, zero, suc, ◌+◌, ◌-◌, ◌^◌, ◌<◌, ◌≤◌, true, false, cond, eqb, ltb, leb, List, [], ◌∷◌, ◌++◌, map, length, drop, replicate, ℤ, pos, negsuc, Some, None, Ok, Err, Decides, Option, Result, sym, refl, ap, ◌∙◌, subst, append_assoc, add-zero, arith, length-append, length-drop, drop-drop, ne_eqb, le-leb}
 use Rattle.std.proofs.lemmas.List.{map-append, drop_at, length-map, length-replicate}
 use Rattle.std.proofs.lemmas.Bool.{cond-true, cond-false, lt-ltb, lt-leb, false≢true}
 use Rattle.std.proofs.lemmas.Slice.Eq.{bytes_eq-Decides}
 use Rattle.std.specs.Str.{bytes_eq}
-use Rattle.codec.specs.Leb128.{uleb, sleb, read_unsigned, read_signed, fits_u64, fits_i64}
-use Rattle.codec.specs.Elements.{Reading, Laws}
+use Rattle.codec.specs.Leb128.{uleb, sleb, read_unsigned, read_signed, fits_i64}
+use Rattle.codec.specs.declared.parse.fault.NumberFault.{NumberFault}
+use Rattle.codec.specs.Elements.{Reading, Laws, numbered}
 use Rattle.codec.specs.Laws.Kinds.{unsigned_laws, signed_laws, numbered_ok}
 use Rattle.columns.specs.declared.fault.ColumnFault.TheVariants.{RunTooLong}
 use Rattle.columns.specs.declared.rle.run.Run.TheVariants.{Null as nullKind, Same as same, Literal as literalKind}
@@ -35,18 +36,15 @@ AllOf Element code (None ∷ xs) = AllOf Element code xs
 AllOf Element code (Some c ∷ xs) = CodeOf Element code c × AllOf Element code xs
 
 -- a number that stands in front
-signed_back : (z : ℤ) (s : List ℕ) → fits_i64 z ≡ true → number (read_signed (sleb z ++ s)) ≡ Ok (z, length (sleb z))
-signed_back z s fits = ap number (numbered_ok (read_signed (sleb z ++ s)) (z, length (sleb z)) (signed_laws.back z fits s))
-
-unsigned_back : (n : ℕ) (s : List ℕ) → fits_u64 n ≡ true → number (read_unsigned (uleb n ++ s)) ≡ Ok (n, length (uleb n))
-unsigned_back n s fits = ap number (numbered_ok (read_unsigned (uleb n ++ s)) (n, length (uleb n)) (unsigned_laws.back n fits s))
+number_back : {N : Type 0} {Element : N → Type 0} {code : N → List ℕ} (reads : List ℕ → Result (N × ℕ) NumberFault) → Laws Element code (λ bytes. numbered (reads bytes)) → (n : N) (s : List ℕ) → Element n → number (reads (code n ++ s)) ≡ Ok (n, length (code n))
+number_back reads laws n s fine = ap number (numbered_ok _ (n, _) (laws.back n fine s))
 
 shape_back : (z : ℤ) (h : Shape) (s : List ℕ) → fits_i64 z ≡ true → shape z ≡ Ok h → reads_shape (sleb z ++ s) ≡ Ok (h, length (sleb z))
-shape_back z h s fits e = ap (λ (o : Outcome ℤ). and_then o (λ z k. shape_at k (shape z))) (signed_back z s fits) ∙ ap (shape_at (length (sleb z))) e
+shape_back z h s fits e = ap (λ (o : Outcome ℤ). and_then o (λ z k. shape_at k (shape z))) (number_back read_signed signed_laws z s fits) ∙ ap (shape_at (length (sleb z))) e
 
 nulls_back : (n : ℕ) (s : List ℕ) → n < 2 ^ 63 → reads_nulls (uleb n ++ s) ≡ Ok (n, length (uleb n))
 nulls_back n s l =
-    ap (λ (o : Outcome ℕ). and_then o (λ n k. cond (ltb n (2 ^ 63)) (Ok (n, k)) (Err RunTooLong))) (unsigned_back n s (lt-ltb n (2 ^ 64) (omega arith)))
+    ap (λ (o : Outcome ℕ). and_then o (λ n k. cond (ltb n (2 ^ 63)) (Ok (n, k)) (Err RunTooLong))) (number_back read_unsigned unsigned_laws n s (lt-ltb n (2 ^ 64) (omega arith)))
     ∙ cond-true (ltb n (2 ^ 63)) _ _ (lt-ltb n (2 ^ 63) l)
 
 map_replicate : {A B : Type 0} (f : A → B) (n : ℕ) (a : A) → map f (replicate n a) ≡ replicate n (f a)

@@ -1,8 +1,9 @@
 -- What is known of a header or an element that was read.
 use Rattle.std.proofs.Common.{◌≡◌, ℕ, ◌+◌, ◌^◌, ◌<◌, ◌≤◌, Bool, true, false, cond, ltb, List, length, drop, ℤ, Ok, Err, Result, sym, refl, ap, arith, length-drop}
 use Rattle.std.specs.Result.{result_map_both}
+use Rattle.codec.specs.declared.parse.fault.NumberFault.{NumberFault}
 use Rattle.codec.specs.Leb128.{read_unsigned, read_signed}
-use Rattle.codec.specs.Elements.{Reading, Laws, used, reads_unsigned, reads_signed}
+use Rattle.codec.specs.Elements.{Reading, Laws, used, numbered}
 use Rattle.codec.specs.Laws.Kinds.{unsigned_laws, signed_laws}
 use Rattle.columns.specs.declared.fault.ColumnFault.{ColumnFault}
 use Rattle.columns.specs.declared.rle.run.Head.{Head}
@@ -31,24 +32,21 @@ read_ok f (Ok x) a e = let same : x ≡ a = cc in cc
 read_ok f (Err c) a e = cc
 
 -- a number at the front takes at least a byte, and no more than there are
-signed_takes : (s : List ℕ) (z : ℤ) (k : ℕ) → number (read_signed s) ≡ Ok (z, k) → (1 ≤ k) × (k ≤ length s)
-signed_takes s z k e = signed_laws.within s z k (ap (Rattle.codec.specs.Elements.numbered) (read_ok _ (read_signed s) (z, k) e))
-
-unsigned_takes : (s : List ℕ) (n k : ℕ) → number (read_unsigned s) ≡ Ok (n, k) → (1 ≤ k) × (k ≤ length s)
-unsigned_takes s n k e = unsigned_laws.within s n k (ap (Rattle.codec.specs.Elements.numbered) (read_ok _ (read_unsigned s) (n, k) e))
+number_takes : {N : Type 0} {Element : N → Type 0} {code : N → List ℕ} (reads : List ℕ → Result (N × ℕ) NumberFault) → Laws Element code (λ bytes. numbered (reads bytes)) → (s : List ℕ) (n : N) (k : ℕ) → number (reads s) ≡ Ok (n, k) → (1 ≤ k) × (k ≤ length s)
+number_takes reads laws s n k e = laws.within s n k (ap numbered (read_ok _ _ (n, k) e))
 
 shape_takes : (s : List ℕ) (h : Shape) (k : ℕ) → reads_shape s ≡ Ok (h, k) → (0 < k) × (k ≤ length s)
 shape_takes s h k e = let p = then_ok (number (read_signed s)) _ h k e in go p.0 p.1 (shape p.0) p.2 p.3
   where
     go : (z : ℤ) (j : ℕ) (r : Result Shape ColumnFault) → number (read_signed s) ≡ Ok (z, j) → shape_at j r ≡ Ok (h, k) → (0 < k) × (k ≤ length s)
-    go z j (Ok x) a b = let y : j ≡ k = (ok_parts b).1 in let t = signed_takes s z j a in (omega arith, omega arith)
+    go z j (Ok x) a b = let y : j ≡ k = (ok_parts b).1 in let t = number_takes read_signed signed_laws s z j a in (omega arith, omega arith)
     go z j (Err f) a b = absurd (not_both (shape_at j (Err f)) b refl)
 
 nulls_take : (s : List ℕ) (n k : ℕ) → reads_nulls s ≡ Ok (n, k) → k ≤ length s
 nulls_take s n k e = let p = then_ok (number (read_unsigned s)) _ n k e in go p.0 p.1 (ltb p.0 (2 ^ 63)) p.2 p.3
   where
     go : (m j : ℕ) (t : Bool) → number (read_unsigned s) ≡ Ok (m, j) → cond {A = Outcome ℕ} t (Ok (m, j)) (Err ColumnFault.RunTooLong) ≡ Ok (n, k) → k ≤ length s
-    go m j true a b = let y : j ≡ k = (ok_parts b).1 in omega (arith, unsigned_takes s m j a)
+    go m j true a b = let y : j ≡ k = (ok_parts b).1 in omega (arith, number_takes read_unsigned unsigned_laws s m j a)
     go m j false a b = absurd (not_both _ b refl)
 
 module _ {M : Type 0} {Element : M → Type 0} {code : M → List ℕ} (reads : List ℕ → Reading M) (laws : Laws Element code reads) where

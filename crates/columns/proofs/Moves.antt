@@ -1,12 +1,8 @@
 -- What a call's answer says of what is still to be written.
-use Rattle.std.proofs.Common.{◌≡◌, ℕ, Bool, true, false, List, ◌++◌, is_err, IfOk, Ok, Err, Result, sym, refl, ap, ◌∙◌, MatchResult}
+use Rattle.std.proofs.Common.{◌≡◌, ℕ, Bool, true, false, List, ◌++◌, is_err, Err, Result, sym, refl, ap, ◌∙◌, MatchResult}
 use Rattle.std.proofs.lemmas.Result.{MatchResult-from_err}
 use Rattle.codec.specs.Feed.{fed, Fed}
 use Rattle.codec.proofs.Feeds.{fed_on, fed_exit}
-
-pub made_when : {X Y : Type 0} (r : Result X Y) (Q : Type 0) → Q → IfOk r (λ _. Q)
-made_when (Ok x) Q q = q
-made_when (Err y) Q q = tt
 
 -- nothing was written
 pub stays : {S : Type 0} (takes : S → ℕ → Bool) (step : S → ℕ → S) (s : S) {P : Type 0} {a b : List ℕ} → P × (a ≡ b) → P × (fed takes step s b ≡ fed takes step s a)

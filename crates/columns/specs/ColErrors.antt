@@ -5,27 +5,30 @@ use Rattle.columns.specs.declared.fault.ColumnFault.{ColumnFault}
 use Rattle.columns.specs.declared.col_error.ColumnName.{ColumnName}
 use Rattle.columns.specs.declared.col_error.ColumnName.TheVariants as names
 use Rattle.columns.specs.declared.col_error.Path.{Path}
-use Rattle.columns.specs.declared.col_error.Path.TheVariants.{Alone, Within}
 use Rattle.columns.specs.declared.col_error.DecodeColErrorKind.{DecodeColErrorKind}
 use Rattle.columns.specs.declared.col_error.DecodeColErrorKind.TheVariants.{UnexpectedNull, InvalidValue}
 use Rattle.columns.specs.declared.col_error.DecodeColumnError.{DecodeColumnError}
 use Rattle.columns.specs.Faults.{column_number}
 
+-- a column without a group
+abbrev pub alone : ColumnName → Path
+alone name = record { column = name; group = None }
+
 -- an entry of the column is refused
 abbrev pub invalid : ColumnFault → ColumnName → DecodeColumnError
-invalid fault name = record { path = Alone name; error = InvalidValue fault }
+invalid fault name = record { path = alone name; error = InvalidValue fault }
 
 -- the column has nothing where a value must be
 abbrev pub missing : ColumnName → DecodeColumnError
-missing name = record { path = Alone name; error = UnexpectedNull }
+missing name = record { path = alone name; error = UnexpectedNull }
 
--- one name further out
-abbrev pub longer : Path → ColumnName → Path
-longer (Alone inner) name = Within inner name
-longer (Within inner outer) name = Within inner outer
+-- one name further out: a path has two at most
+abbrev pub further : Option ColumnName → ColumnName → Option ColumnName
+further None name = Some name
+further (Some group) name = Some group
 
 abbrev pub in_column : DecodeColumnError → ColumnName → DecodeColumnError
-in_column e name = record { path = longer e.path name; error = e.error }
+in_column e name = record { path = record { column = e.path.column; group = further e.path.group name }; error = e.error }
 
 -- the number of each
 abbrev pub error_number : DecodeColErrorKind → ℕ

@@ -2,6 +2,7 @@
 -- Differences and sums saturate at 64 bits.
 use Rattle.std.specs.Prelude.{◌≡◌, ℕ, suc, ◌^◌, ◌<◌, true, false, List, [], ◌∷◌, map, length, drop, ℤ, pos, ◌+ℤ◌, ◌-ℤ◌, Some, None, Option, Result, refl}
 use Rattle.std.proofs.Common.{sym, ap, subst}
+use Rattle.std.proofs.lemmas.List.{length-map}
 use Rattle.std.specs.Option.{option_map}
 use Rattle.std.specs.Int.{saturate_to_bits}
 use Rattle.std.specs.Result.{result_map_both}
@@ -74,3 +75,7 @@ differences_length last (Some z ∷ xs) = ap suc (differences_length z xs)
 -- the differences are as few as the numbers
 pub differences_few : (last : ℤ) (xs : List (Option ℤ)) → length xs < 2 ^ 63 → length (differences last xs) < 2 ^ 63
 differences_few last xs few = subst (λ (n : ℕ). n < 2 ^ 63) (sym (differences_length last xs)) few
+
+-- and so are their codes
+pub codes_few : (last : ℤ) (xs : List (Option ℤ)) → length xs < 2 ^ 63 → length (codes_of (differences last xs)) < 2 ^ 63
+codes_few last xs few = subst (λ (n : ℕ). n < 2 ^ 63) (sym (length-map (differences last xs) (option_map sleb))) (differences_few last xs few)

@@ -50,8 +50,6 @@ abbrev pub reads_nulls : List ℕ → Outcome ℕ
 reads_nulls bytes = and_then (number (read_unsigned bytes)) (λ n used. cond (nat_lt n (2 ^ 63)) (Ok (n, used)) (Err RunTooLong))
 
 -- what was read, and a run, by what its elements mean
-abbrev pub read_by : {T M : Type 0} → (T → M) → Outcome T → Outcome M
-read_by means r = result_map_both (λ p. (means p.0, p.1)) (λ fault. fault) r
 
 abbrev pub run_by : {T M : Type 0} → (T → M) → Run T → Run M
 run_by means Null = Null

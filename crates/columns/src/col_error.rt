@@ -25,14 +25,14 @@ pub enum ColumnName {
     MarkName,
 }
 
-// Where a fault is: a column that stands alone, or a column and then its group.
+// Where a fault is: a column, and its group if it has one.
 #[derive(Clone, Copy, Debug, PartialEq, Eq)]
-pub enum Path {
-    Alone(ColumnName),
-    Within(ColumnName, ColumnName),
+pub struct Path {
+    pub column: ColumnName,
+    pub group: Option<ColumnName>,
 }
 
-// What is wrong there.
+// What is wrong there. Cases of their own, since `None` would not say that a value is missing.
 #[derive(Clone, Copy, Debug, PartialEq, Eq)]
 pub enum DecodeColErrorKind {
     // nothing where a value must be
@@ -52,12 +52,11 @@ impl DecodeColumnError {
     pub fn in_column(self, name: ColumnName) -> DecodeColumnError
         ensures { result ≡ in_column self name }
     {
-        let path = match self.path {
-            Path::Alone(inner) => Path::Within(inner, name),
-            Path::Within(inner, outer) => Path::Within(inner, outer),
-        };
         DecodeColumnError {
-            path,
+            path: Path {
+                column: self.path.column,
+                group: self.path.group.or(Some(name)),
+            },
             error: self.error,
         }
     }

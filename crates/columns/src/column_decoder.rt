@@ -23,7 +23,10 @@ impl IntoColError for ColumnFault {
 
     fn into_col_error(self, name: ColumnName) -> DecodeColumnError {
         DecodeColumnError {
-            path: Path::Alone(name),
+            path: Path {
+                column: name,
+                group: None,
+            },
             error: DecodeColErrorKind::InvalidValue(self),
         }
     }
@@ -85,7 +88,10 @@ pub fn next_in_col<D: ColumnDecoder>(
     ensures after { D.ColumnDecoder.left decoder.new ≡ D.ColumnDecoder.leaves (D.ColumnDecoder.left decoder.old) }
 {
     maybe_next_in_col(decoder, name)?.ok_or(DecodeColumnError {
-        path: Path::Alone(name),
+        path: Path {
+            column: name,
+            group: None,
+        },
         error: DecodeColErrorKind::UnexpectedNull,
     })
 }

@@ -4,7 +4,8 @@ ghost use Rattle.columns.specs.declared.range.RangeRefused.TheVariants.{EndBeyon
 
 use crate::range::{Range, RangeRefused};
 
-// A place in data that go up to the column's end.
+// A place in data that go up to the column's end. It is kept as a number, since readers tell where in
+// the data an element stands.
 #[derive(Clone, Copy)]
 pub(crate) struct Cursor<'a> {
     bytes: &'a [u8],

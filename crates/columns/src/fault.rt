@@ -57,7 +57,7 @@ impl Fault for ColumnFault {
     }
 }
 
-// A fault is shown as its cause.
+// A fault is shown as its cause; by hand, since a derive would have the words a second time.
 impl fmt::Display for ColumnFault {
     ghost output = { λ fault. Some (column_cause fault) };
 

@@ -25,7 +25,9 @@ pub mod source;
 // what was told and is not written
 mod state;
 
-// A run column that is read: where the reader stands, and what is left of the run there.
+// A run column that is read: where the reader stands, and what is left of the run there. It is no
+// `Iterator`, since readers are made at their end and opened later, and has no `Model`, which a type that
+// is `Copy` and has a lifetime cannot have.
 pub struct RleDecoder<'a, E> {
     cursor: Cursor<'a>,
     head: Head<E>,

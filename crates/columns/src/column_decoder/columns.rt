@@ -78,6 +78,7 @@ impl<'a> ColumnDecoder for DeltaDecoder<'a> {
     }
 }
 
+// Not one impl with that of numbers: a text has its place, and a clause of its own that says so.
 impl<'a> ColumnDecoder for RleDecoder<'a, Text<'a>> {
     type Value = TextPart<'a>;
 
@@ -95,6 +96,7 @@ impl<'a> ColumnDecoder for RleDecoder<'a, Text<'a>> {
 
     ghost leaves = { others };
 
+    // The trait's clauses are said again, since an impl's own clauses stand in their place.
     fn maybe_next(&mut self) -> Result<Option<TextPart<'a>>, ColumnFault>
         ensures answer { seen_option text_seen result ≡ text_value (remains reads_text (λ x. x.part.now) self.old) }
         ensures after { remains reads_text (λ x. x.part.now) self.new ≡ others (remains reads_text (λ x. x.part.now) self.old) }

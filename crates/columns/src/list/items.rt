@@ -81,9 +81,7 @@ impl<'t, T: Copy> Source for Listed<'t, T> {
     ghost few = { λ s. s.short };
 
     fn next(&mut self) -> Option<Option<T>> {
-        let [first, items @ ..] = self.items else {
-            return None;
-        };
+        let (first, items) = self.items.split_first()?;
         *self = Listed { items };
         Some(*first)
     }

@@ -24,7 +24,7 @@ impl<'a, E: Decodable<'a>> RleDecoder<'a, E> {
 
     // Goes to the start of a column. Where its range ends beyond the data, all stays as it is.
     // The readers of runs, differences and bytes each say so of themselves: a trait for the three would
-    // have callers import it, and would say no less.
+    // say `answer` and `kept` once, but have each caller import it and each impl say what is left.
     pub fn open(&mut self, data: &'a [u8], range: Range) -> Result<(), RangeRefused>
         ensures answer { result ≡ opening (length «data».now) range.end }
         ensures after { remains E.reads E.means self.new ≡ (if nat_le range.end (length «data».now) then entries E.reads (take range.end «data».now) range.start else remains E.reads E.means self.old) }

@@ -37,8 +37,7 @@ where
             (RleState::Empty, None) => Ok(RleState::InitialNullRun(1)),
             (RleState::Empty, Some(x)) => Ok(RleState::LoneVal { from: at, last: x }),
             (RleState::InitialNullRun(n), None) => Ok(RleState::InitialNullRun(n + 1)),
-            // Its own arm, although a later null run has the same: the two had yet to write different
-            // bytes, and the proof of a joint arm hangs on the names of the checker's inner steps.
+            // Not one arm with that of a later null run: tried, and the proof did not close.
             (RleState::InitialNullRun(n), Some(x)) => {
                 flush_null_run(out, n)?;
                 Ok(RleState::LoneVal { from: at, last: x })

@@ -2,7 +2,8 @@
 //
 // How much was read is bounded in each contract by the bytes of the call, which no type of an answer knows.
 ghost use Rattle.std.specs.Prelude.{◌≡◌, ℕ, ◌<◌, ◌≤◌, length, IfOk};
-ghost use Rattle.columns.specs.Runs.{shape, reads_shape, reads_nulls, element, header, head_by, read_by};
+ghost use Rattle.columns.specs.Runs.{shape, reads_shape, reads_nulls, element, header, head_by};
+ghost use Rattle.codec.specs.Leb128.{read_as};
 
 use crate::fault::ColumnFault;
 use crate::rle::run::{Head, Run, Shape};
@@ -44,7 +45,7 @@ fn read_nulls(bytes: &[u8]) -> Result<(u64, usize), ColumnFault>
 
 // The element that the bytes start with. It is read into a place, since that is how a kind reads.
 pub(crate) fn read_element<'a, E: Decodable<'a>>(bytes: &'a [u8]) -> Result<(E, usize), ColumnFault>
-    ensures answer { read_by E.means result ≡ element (E.reads bytes.now) }
+    ensures answer { read_as E.means result ≡ element (E.reads bytes.now) }
     ensures within { IfOk result (λ p. p.1 ≤ length bytes.now) }
 {
     let mut place = E::blank();
@@ -56,7 +57,7 @@ pub(crate) fn read_element<'a, E: Decodable<'a>>(bytes: &'a [u8]) -> Result<(E, 
 pub(crate) fn read_header<'a, E: Decodable<'a>>(
     bytes: &'a [u8],
 ) -> Result<(Head<E>, usize), ColumnFault>
-    ensures answer { read_by (head_by E.means) result ≡ header E.reads bytes.now }
+    ensures answer { read_as (head_by E.means) result ≡ header E.reads bytes.now }
     ensures within { IfOk result (λ p. (0 < p.1) × (p.1 ≤ length bytes.now)) }
 {
     let (shape, used) = read_shape(bytes)?;

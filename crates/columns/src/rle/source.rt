@@ -24,7 +24,8 @@ pub trait Source: Copy {
         ensures { list self.old ≡ came result (list self.new) };
 }
 
-// What stands for an element of a kind, or for a null.
+// What stands for an element of a kind, or for a null. A list by the codes of its entries is `coming`: this
+// trait and that of lists meet only where a writer is bound by both.
 pub trait Entry<'a, E: Encodable<'a>>: Copy {
     // the code of the element
     ghost code: { Self → Option (List ℕ) };

@@ -1,6 +1,6 @@
 use Rattle.codec.proofs.Feeds.{at_sink}
 use Rattle.columns.specs.Deltas.{DeltaAt}
-use Rattle.columns.proofs.Puts.{put_back}
+use Rattle.codec.proofs.Feeds.{put_back}
 use Rattle.columns.proofs.delta.encoder.put_deltas.Goals as goal
 
 pub returns : goal.returns

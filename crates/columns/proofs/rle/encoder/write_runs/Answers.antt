@@ -5,7 +5,7 @@ use Rattle.columns.specs.Machine.{to_come}
 use Rattle.columns.proofs.Arms.{coming_few}
 use Rattle.columns.proofs.Back.{AllOf}
 use Rattle.columns.proofs.Same.{returned}
-use Rattle.columns.proofs.Moves.{made_when}
+use Rattle.codec.proofs.Feeds.{made_when}
 use Rattle.columns.proofs.rle.encoder.write_runs.Goals as goal
 
 pub returns-in_default : goal.returns-in_default

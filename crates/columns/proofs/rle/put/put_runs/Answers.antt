@@ -2,7 +2,7 @@ use Rattle.codec.proofs.Feeds.{at_sink}
 use Rattle.columns.specs.Came.{coming}
 use Rattle.columns.specs.Law.{ColumnAt}
 use Rattle.columns.proofs.Cuts.{the_cut}
-use Rattle.columns.proofs.Puts.{put_back}
+use Rattle.codec.proofs.Feeds.{put_back}
 use Rattle.columns.proofs.rle.put.put_runs.Goals as goal
 
 pub returns : goal.returns
