@@ -21,10 +21,10 @@ use columns::rle::RleDecoder;
 use columns::rle::put::put_runs;
 use columns::rle::source::{Entry, Source};
 
-// What is answered where something was refused.
+// What is answered where something was refused: over the C interface there is one number for both.
 const REFUSED: u64 = u64::MAX;
 
-// What a null counts as.
+// What a null counts as in the checksum, which the Rust beside it makes in the same way.
 const NULL: u64 = u64::MAX;
 
 #[unsafe(no_mangle)]

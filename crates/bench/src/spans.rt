@@ -4,7 +4,7 @@ ghost use Rattle.std.specs.Prelude.{◌^◌, ◌<◌, length};
 // the same as a list to be written
 pub(crate) mod source;
 
-// A place in such a list.
+// A place in such a list. Both slices are those that an exported function is lent.
 #[derive(Clone, Copy)]
 pub(crate) struct Spans<'a> {
     pool: &'a [u8],

@@ -2,7 +2,6 @@
 ghost use Rattle.std.specs.Prelude.{◌≡◌, ◌≢◌, [], codes, IfOk, Ok};
 ghost use Rattle.hex.specs.Hex.{decode_of};
 
-use codec::element::Decodable;
 use codec::element::text::Text;
 use codec::encoding::SinkRefused;
 use codec::encoding::buffer::BufferSink;
@@ -105,8 +104,8 @@ fn tell_number<N: Integer + Display>(output: &mut impl Write, bytes: &[u8]) -> i
 
 // Whether bytes are text.
 fn tell_text(output: &mut impl Write, bytes: &[u8]) -> io::Result<()> {
-    match Text::blank().fill(bytes) {
-        Ok(()) => writeln!(output, "ok"),
+    match Text::try_from(bytes) {
+        Ok(_) => writeln!(output, "ok"),
         Err(fault) => writeln!(output, "fault,{fault}"),
     }
 }

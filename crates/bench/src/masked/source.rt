@@ -21,12 +21,8 @@ impl<'t> Source for Masked<'t> {
     ghost few = { λ s. masked_few s.values.now s.nulls.now s.short };
 
     fn next(&mut self) -> Option<Option<u64>> {
-        let [value, values @ ..] = self.values else {
-            return None;
-        };
-        let [null, nulls @ ..] = self.nulls else {
-            return None;
-        };
+        let (value, values) = self.values.split_first()?;
+        let (null, nulls) = self.nulls.split_first()?;
         *self = Masked { values, nulls };
         Some(if *null == 1 { None } else { Some(*value) })
     }

@@ -5,7 +5,6 @@ ghost use Rattle.codec.specs.Elements.{text_code};
 ghost use Rattle.bench.specs.Lists.{text_at, spanned, spanned_few};
 
 use crate::spans::{Span, Spans};
-use codec::element::Decodable;
 use codec::element::text::Text;
 use columns::rle::source::{Entry, Source};
 
@@ -21,13 +20,8 @@ impl<'a> Entry<'a, Text<'a>> for Span<'a> {
     ghost code = { λ s. option_map text_code (text_at s.pool.now s.start s.end) };
 
     fn element(self) -> Option<Text<'a>> {
-        if self.start > self.end || self.end > self.pool.len() as u64 {
-            return None;
-        }
-        let mut text = Text::blank();
-        text.fill(&self.pool[self.start as usize..self.end as usize])
-            .ok()?;
-        Some(text)
+        let part = self.pool.get(self.start as usize..self.end as usize)?;
+        Text::try_from(part).ok()
     }
 }
 
