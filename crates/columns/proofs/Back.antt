@@ -36,7 +36,7 @@ AllOf Element code (None ∷ xs) = AllOf Element code xs
 AllOf Element code (Some c ∷ xs) = CodeOf Element code c × AllOf Element code xs
 
 -- a number that stands in front
-number_back : {N : Type 0} {Element : N → Type 0} {code : N → List ℕ} (reads : List ℕ → Result (N × ℕ) NumberFault) → Laws Element code (λ bytes. numbered (reads bytes)) → (n : N) (s : List ℕ) → Element n → number (reads (code n ++ s)) ≡ Ok (n, length (code n))
+pub number_back : {N : Type 0} {Element : N → Type 0} {code : N → List ℕ} (reads : List ℕ → Result (N × ℕ) NumberFault) → Laws Element code (λ bytes. numbered (reads bytes)) → (n : N) (s : List ℕ) → Element n → number (reads (code n ++ s)) ≡ Ok (n, length (code n))
 number_back reads laws n s fine = ap number (numbered_ok _ (n, _) (laws.back n fine s))
 
 shape_back : (z : ℤ) (h : Shape) (s : List ℕ) → fits_i64 z ≡ true → shape z ≡ Ok h → reads_shape (sleb z ++ s) ≡ Ok (h, length (sleb z))
@@ -52,7 +52,7 @@ map_replicate f zero a = refl
 map_replicate f (suc n) a = ap (λ l. f a ∷ l) (map_replicate f n a)
 
 -- behind a part that stands at p
-behind : (d a s : List ℕ) (p : ℕ) → drop p d ≡ a ++ s → drop (p + length a) d ≡ s
+pub behind : (d a s : List ℕ) (p : ℕ) → drop p d ≡ a ++ s → drop (p + length a) d ≡ s
 behind d a s p e = sym (drop-drop (length a) p d) ∙ ap (drop (length a)) e ∙ drop_at a s (length a) refl
 
 module _ {M : Type 0} (Element : M → Type 0) (code : M → List ℕ) where

@@ -16,11 +16,11 @@ module _ {M : Type 0} where
   none_hollowed [] = refl
   none_hollowed (e ∷ es) = refl
 
-  first_hollowed : (l : List (Entry M)) → first l ≡ first (hollowed l)
+  pub first_hollowed : (l : List (Entry M)) → first l ≡ first (hollowed l)
   first_hollowed [] = refl
   first_hollowed (e ∷ es) = refl
 
-  others_hollowed : (l : List (Entry M)) → others l ≡ others (hollowed l)
+  pub others_hollowed : (l : List (Entry M)) → others l ≡ others (hollowed l)
   others_hollowed [] = refl
   others_hollowed (e ∷ es) = refl
 

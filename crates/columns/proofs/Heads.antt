@@ -32,7 +32,7 @@ read_ok f (Ok x) a e = let same : x ≡ a = cc in cc
 read_ok f (Err c) a e = cc
 
 -- a number at the front takes at least a byte, and no more than there are
-number_takes : {N : Type 0} {Element : N → Type 0} {code : N → List ℕ} (reads : List ℕ → Result (N × ℕ) NumberFault) → Laws Element code (λ bytes. numbered (reads bytes)) → (s : List ℕ) (n : N) (k : ℕ) → number (reads s) ≡ Ok (n, k) → (1 ≤ k) × (k ≤ length s)
+pub number_takes : {N : Type 0} {Element : N → Type 0} {code : N → List ℕ} (reads : List ℕ → Result (N × ℕ) NumberFault) → Laws Element code (λ bytes. numbered (reads bytes)) → (s : List ℕ) (n : N) (k : ℕ) → number (reads s) ≡ Ok (n, k) → (1 ≤ k) × (k ≤ length s)
 number_takes reads laws s n k e = laws.within s n k (ap numbered (read_ok _ _ (n, k) e))
 
 shape_takes : (s : List ℕ) (h : Shape) (k : ℕ) → reads_shape s ≡ Ok (h, k) → (0 < k) × (k ≤ length s)

@@ -12,3 +12,5 @@ pub mod Puts
 pub mod Deltas
 pub mod Headers
 pub mod Stands
+pub mod Flags
+pub mod FlagsBack

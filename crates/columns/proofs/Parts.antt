@@ -13,8 +13,8 @@ use Rattle.columns.proofs.Cuts.{closes, none_first, some_first, twice_first}
 abbrev Codes : Type 0
 Codes = List (Option (List ℕ))
 
-pub shifted : (n : ℕ) (a : Option (List ℕ)) (xs : Codes) → replicate n a ++ a ∷ xs ≡ replicate (n + 1) a ++ xs
-shifted n a xs = sym (append_assoc (replicate n a) (a ∷ []) xs) ∙ ap (λ (l : Codes). l ++ xs) (replicate_more n a)
+pub shifted : {A : Type 0} (n : ℕ) (a : A) (xs : List A) → replicate n a ++ a ∷ xs ≡ replicate (n + 1) a ++ xs
+shifted {A} n a xs = sym (append_assoc (replicate n a) (a ∷ []) xs) ∙ ap (λ (l : List A). l ++ xs) (replicate_more n a)
 
 pub any_nulls : (n : ℕ) (xs : Codes) → any_element (replicate n None ++ xs) ≡ any_element xs
 any_nulls zero xs = refl

@@ -11,3 +11,4 @@ pub mod Deltas
 pub mod Raws
 pub mod ColErrors
 pub mod Values
+pub mod Flags

@@ -1,5 +1,5 @@
 -- Ranges by their two numbers, and why one is refused.
-use Rattle.std.specs.Prelude.{ℕ, cond, Ok, Err, Result, nat_le}
+use Rattle.std.specs.Prelude.{ℕ, List, codes, cond, Ok, Err, Result, nat_le}
 use Rattle.std.specs.Result.{result_map_both}
 use Rattle.columns.specs.declared.range.Range.{Range}
 use Rattle.columns.specs.declared.range.RangeRefused.{RangeRefused}
@@ -20,3 +20,8 @@ opening n end = cond (nat_le end n) (Ok tt) (Err EndBeyondData)
 abbrev pub range_number : RangeRefused → ℕ
 range_number EndBeforeStart = 1
 range_number EndBeyondData = 3
+
+-- and in words
+abbrev pub range_words : RangeRefused → List ℕ
+range_words EndBeforeStart = codes "the range ends before its start"
+range_words EndBeyondData = codes "the range ends beyond the data"

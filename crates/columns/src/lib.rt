@@ -1,7 +1,9 @@
-// The columns of a change: runs of elements and nulls, differences and plain bytes.
+// The columns of a change: runs of elements and nulls, differences, booleans and plain bytes.
 
 #![tactic(auto)]
 
+// booleans
+pub mod boolean;
 // faults with the path to their column
 pub mod col_error;
 // columns read by values

@@ -6,9 +6,9 @@ use std::alloc::AllocError;
 // as entries of a run column
 pub mod items;
 
-// A place in a list of values and nulls.
+// A place in a list.
 pub struct Listed<'t, T> {
-    items: &'t [Option<T>],
+    items: &'t [T],
     ghost short: { length items.now < 2 ^ 63 },
 }
 

@@ -1,11 +1,13 @@
 // The columns that are read by values.
-ghost use Rattle.std.specs.Prelude.{◌≡◌, ℕ, ◌-◌, List, length, ℤ};
+ghost use Rattle.std.specs.Prelude.{◌≡◌, ℕ, ◌-◌, Bool, List, length, ℤ};
 ghost use Rattle.codec.specs.Elements.{reads_unsigned, reads_text};
 ghost use Rattle.columns.specs.Column.{Entry, others, remains};
 ghost use Rattle.columns.specs.ColErrors.{seen_option};
 ghost use Rattle.columns.specs.Deltas.{deltas_left};
+ghost use Rattle.columns.specs.Flags.{flags_left};
 ghost use Rattle.columns.specs.Values.{value, text_value, text_seen, TextsStand};
 
+use crate::boolean::BooleanDecoder;
 use crate::column_decoder::ColumnDecoder;
 use crate::delta::DeltaDecoder;
 use crate::fault::ColumnFault;
@@ -75,6 +77,28 @@ impl<'a> ColumnDecoder for DeltaDecoder<'a> {
 
     fn maybe_next(&mut self) -> Result<Option<i64>, ColumnFault> {
         Ok(self.next()?.flatten())
+    }
+}
+
+impl<'a> ColumnDecoder for BooleanDecoder<'a> {
+    type Value = bool;
+
+    type Error = ColumnFault;
+
+    ghost Seen = { Bool };
+
+    ghost seen = { λ b. b };
+
+    ghost Left = { List (Entry Bool) };
+
+    ghost left = { flags_left };
+
+    ghost tells = { value };
+
+    ghost leaves = { others };
+
+    fn maybe_next(&mut self) -> Result<Option<bool>, ColumnFault> {
+        self.next()
     }
 }
 

@@ -63,7 +63,7 @@ impl<'a, E: Encodable<'a>, T: Item<'a, E>> Entry<'a, E> for Option<T> {
 
 impl<'t, T> Listed<'t, T> {
     // The start of a list, which has at most 2^63 - 1 entries: what is beyond them is left out.
-    pub fn new(items: &'t [Option<T>]) -> Listed<'t, T>
+    pub fn new(items: &'t [T]) -> Listed<'t, T>
         ensures { result.items.now ≡ take (2 ^ 63 - 1) items.now }
     {
         let len = items.len().min(MOST);
@@ -74,13 +74,13 @@ impl<'t, T> Listed<'t, T> {
 }
 
 impl<'t, T: Copy> Source for Listed<'t, T> {
-    type Entry = Option<T>;
+    type Entry = T;
 
     ghost list = { λ s. s.items.now };
 
     ghost few = { λ s. s.short };
 
-    fn next(&mut self) -> Option<Option<T>> {
+    fn next(&mut self) -> Option<T> {
         let (first, items) = self.items.split_first()?;
         *self = Listed { items };
         Some(*first)

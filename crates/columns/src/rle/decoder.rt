@@ -23,7 +23,7 @@ impl<'a, E: Decodable<'a>> RleDecoder<'a, E> {
     }
 
     // Goes to the start of a column. Where its range ends beyond the data, all stays as it is.
-    // The readers of runs, differences and bytes each say so of themselves: a trait for the three would
+    // The readers of runs, differences, booleans and bytes each say so of themselves: a trait for the four would
     // say `answer` and `kept` once, but have each caller import it and each impl say what is left.
     pub fn open(&mut self, data: &'a [u8], range: Range) -> Result<(), RangeRefused>
         ensures answer { result ≡ opening (length «data».now) range.end }
