@@ -9,7 +9,7 @@ pub fn numbers()
     ensures { Numbers }
 {}
 
-// Columns: runs, literal runs, nulls and differences.
+// Columns: runs, literal runs, nulls, differences and booleans.
 pub fn columns()
     ensures { Columns }
 {}

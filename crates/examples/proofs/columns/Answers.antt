@@ -13,4 +13,13 @@ returns c =
       read_run = refl;
       read_literal = refl;
       read_delta = refl;
+      no_flags = refl;
+      flag = refl;
+      runs_of_flags = refl;
+      false_alone = refl;
+      maybe_flags = refl;
+      read_flag = refl;
+      read_flags = refl;
+      read_empty_runs = refl;
+      read_hollow = refl;
     }
