@@ -2,28 +2,34 @@
 ghost use Rattle.std.specs.Prelude.{◌≡◌, ◌≢◌, [], codes, IfOk, Ok};
 ghost use Rattle.hex.specs.Hex.{decode_of};
 
+use crate::read::tell_column;
+use crate::write::tell_written;
+use codec::element::fault::ElementFault;
 use codec::element::text::Text;
 use codec::encoding::SinkRefused;
 use codec::encoding::buffer::BufferSink;
 use codec::encoding::leb128::put_leb128;
 use codec::integer::Integer;
 use codec::parse::leb128::read_leb128;
+use columns::range::RangeRefused;
 use hex::FromHexError;
 use std::alloc::{AllocError, Global};
 use std::fmt::Display;
 use std::io;
 use std::io::Write;
 use std::num::ParseIntError;
-use std::str::Utf8Error;
+use std::str::{SplitWhitespace, Utf8Error};
 
 // The most bytes that a number takes.
 const LONGEST: usize = 10;
 
 // Why a line has no answer of its own.
 #[derive(Drop)]
-enum RequestError {
+pub(crate) enum RequestError {
     // it is no request
     Bad,
+    // a byte found no place
+    Refused,
     // there is no memory, or the answer cannot be written
     Io(io::Error),
 }
@@ -31,6 +37,32 @@ enum RequestError {
 impl From<io::Error> for RequestError {
     fn from(error: io::Error) -> RequestError {
         RequestError::Io(error)
+    }
+}
+
+impl From<AllocError> for RequestError {
+    fn from(error: AllocError) -> RequestError {
+        RequestError::Io(error.into())
+    }
+}
+
+impl From<SinkRefused> for RequestError {
+    fn from(_: SinkRefused) -> RequestError {
+        RequestError::Refused
+    }
+}
+
+// The bytes of a given text are none.
+impl From<ElementFault> for RequestError {
+    fn from(_: ElementFault) -> RequestError {
+        RequestError::Bad
+    }
+}
+
+// That the range of the whole data is refused cannot be.
+impl From<RangeRefused> for RequestError {
+    fn from(_: RangeRefused) -> RequestError {
+        RequestError::Bad
     }
 }
 
@@ -60,6 +92,7 @@ pub(crate) fn answer(heap: Global, line: &[u8], output: &mut impl Write) -> io::
     match answer_request(heap, line, output) {
         Ok(()) => Ok(()),
         Err(RequestError::Bad) => writeln!(output, "bad request"),
+        Err(RequestError::Refused) => writeln!(output, "refused"),
         Err(RequestError::Io(error)) => Err(error),
     }
 }
@@ -69,22 +102,48 @@ fn answer_request(heap: Global, line: &[u8], output: &mut impl Write) -> Result<
     let Some(name) = words.next() else {
         return Ok(());
     };
-    let (Some(word), None) = (words.next(), words.next()) else {
-        return Err(RequestError::Bad);
-    };
     match name {
-        "uleb" => tell_number::<u64>(output, bytes_of(heap, word)?.as_slice())?,
-        "sleb" => tell_number::<i64>(output, bytes_of(heap, word)?.as_slice())?,
-        "wuleb" => tell_code(heap, output, word.parse::<u64>()?)?,
-        "wsleb" => tell_code(heap, output, word.parse::<i64>()?)?,
-        "utf8" => tell_text(output, bytes_of(heap, word)?.as_slice())?,
+        "uleb" => tell_number::<u64>(output, bytes_of(heap, only(words)?)?.as_slice())?,
+        "sleb" => tell_number::<i64>(output, bytes_of(heap, only(words)?)?.as_slice())?,
+        "wuleb" => tell_code(heap, output, only(words)?.parse::<u64>()?)?,
+        "wsleb" => tell_code(heap, output, only(words)?.parse::<i64>()?)?,
+        "utf8" => tell_text(output, bytes_of(heap, only(words)?)?.as_slice())?,
+        "rcol" => {
+            let kind = next(&mut words)?;
+            let data = bytes_of(heap, only(words)?)?;
+            tell_column(heap, output, kind, data.as_slice(), 0)?;
+        }
+        "rcolx" => {
+            let kind = next(&mut words)?;
+            let calls = next(&mut words)?.parse::<usize>()?;
+            let data = bytes_of(heap, only(words)?)?;
+            tell_column(heap, output, kind, data.as_slice(), calls)?;
+        }
+        "wcol" => {
+            let kind = next(&mut words)?;
+            tell_written(heap, output, kind, words)?;
+        }
         _ => return Err(RequestError::Bad),
     }
     Ok(())
 }
 
+// The next word.
+fn next<'t>(words: &mut SplitWhitespace<'t>) -> Result<&'t str, RequestError> {
+    words.next().ok_or(RequestError::Bad)
+}
+
+// The only word that is left.
+fn only<'t>(mut words: SplitWhitespace<'t>) -> Result<&'t str, RequestError> {
+    let word = next(&mut words)?;
+    match words.next() {
+        None => Ok(word),
+        Some(_) => Err(RequestError::Bad),
+    }
+}
+
 // The bytes that a word gives: two hexadecimal digits for each, and `-` for none.
-fn bytes_of(heap: Global, word: &str) -> Result<Vec<u8>, RequestError>
+pub(crate) fn bytes_of(heap: Global, word: &str) -> Result<Vec<u8>, RequestError>
     ensures dash { word.now ≡ codes "-" → IfOk result (λ bytes. bytes.items ≡ []) }
     ensures digits { word.now ≢ codes "-" → IfOk result (λ bytes. decode_of word.now ≡ Ok bytes.items) }
 {
@@ -111,11 +170,13 @@ fn tell_text(output: &mut impl Write, bytes: &[u8]) -> io::Result<()> {
 }
 
 // The code of a number, which goes out to a buffer.
-fn tell_code(heap: Global, output: &mut impl Write, number: impl Integer) -> io::Result<()> {
+fn tell_code(
+    heap: Global,
+    output: &mut impl Write,
+    number: impl Integer,
+) -> Result<(), RequestError> {
     let mut buf = [0; LONGEST];
     let mut sink = BufferSink::new(&mut buf);
-    match put_leb128(&mut sink, number) {
-        Ok(()) => writeln!(output, "{}", hex::encode(heap, sink.filled())?),
-        Err(SinkRefused) => writeln!(output, "refused"),
-    }
+    put_leb128(&mut sink, number)?;
+    Ok(writeln!(output, "{}", hex::encode(heap, sink.filled())?)?)
 }
