@@ -1,9 +1,11 @@
 // A short tour of the library, told in print: numbers are measured, go out to a buffer and come
 // back; a full buffer refuses; what was written is compared; damaged bytes are refused with their
-// cause; a text goes out as an element and comes back.
+// cause; a text goes out as an element and comes back; and so do whole columns.
 
 #![tactic(auto)]
 
+// columns, written and read back
+mod card;
 // writing a list of numbers, and reading it back
 mod list;
 // printing bytes
@@ -160,7 +162,8 @@ fn run(rt: &HostRuntime) -> anyhow::Result<()> {
     there_and_back(rt)?;
     full_buffer(rt)?;
     damaged(rt)?;
-    texts(rt)
+    texts(rt)?;
+    card::columns(rt)
 }
 
 fn main(rt: HostRuntime) -> anyhow::Result<()> {
