@@ -24,7 +24,7 @@ use columns::rle::source::{Entry, Source};
 // What is answered where something was refused: over the C interface there is one number for both.
 const REFUSED: u64 = u64::MAX;
 
-// What a null counts as in the checksum, which the Rust beside it makes in the same way.
+// What a null counts as in the checksum, which is for whoever calls over C to make of the same list.
 const NULL: u64 = u64::MAX;
 
 #[unsafe(no_mangle)]
