@@ -11,18 +11,25 @@ mod request;
 // columns that are written
 mod write;
 
-use std::io::{BufRead, BufReader, BufWriter, Write};
+use bstr::io::BufReadExt;
+use std::env::{Env, FillError};
+use std::io::{BufReader, BufWriter, Write};
 use std::{env, io};
 
 fn main(rt: HostRuntime) -> io::Result<()> {
     let heap = rt.alloc();
-    let input = BufReader::new(heap, rt.stdin())?;
+    let mut input = BufReader::new(heap, rt.stdin())?;
     let mut output = BufWriter::new(heap, rt.stdout())?;
-    for line in input.split(heap, b'\n') {
-        request::answer(heap, line?.as_slice(), &mut output)?;
-    }
-    for line in env::args(&rt)?.skip(1) {
-        request::answer(heap, line.as_bytes(), &mut output)?;
+    // Lines are lent where they stand: one that is read into a place of its own costs more than many an answer.
+    input.for_byte_record(heap, b'\n', |line| {
+        request::answer(heap, line, &mut output)?;
+        Ok(true)
+    })?;
+    // The first is the program's name, which need be no text: it is not asked for where none is behind it.
+    if !matches!(rt.arg(1, &mut []), Err(FillError::NotPresent)) {
+        for line in env::args(&rt)?.skip(1) {
+            request::answer(heap, line.as_bytes(), &mut output)?;
+        }
     }
     output.flush()
 }

@@ -18,7 +18,7 @@ use std::fmt::Display;
 use std::io;
 use std::io::Write;
 use std::num::ParseIntError;
-use std::str::{SplitWhitespace, Utf8Error};
+use std::str::{FromStr, SplitWhitespace, Utf8Error};
 
 // The most bytes that a number takes.
 const LONGEST: usize = 10;
@@ -91,41 +91,93 @@ impl From<FromHexError> for RequestError {
 pub(crate) fn answer(heap: Global, line: &[u8], output: &mut impl Write) -> io::Result<()> {
     match answer_request(heap, line, output) {
         Ok(()) => Ok(()),
-        Err(RequestError::Bad) => writeln!(output, "bad request"),
-        Err(RequestError::Refused) => writeln!(output, "refused"),
+        Err(RequestError::Bad) => output.write_all(b"bad request\n"),
+        Err(RequestError::Refused) => output.write_all(b"refused\n"),
         Err(RequestError::Io(error)) => Err(error),
     }
 }
 
+// Each request has a function of its own, which is not inlined: what one needs of the stack is cleared at its start,
+// and no other line pays for that.
 fn answer_request(heap: Global, line: &[u8], output: &mut impl Write) -> Result<(), RequestError> {
     let mut words = std::str::from_utf8(line)?.split_whitespace();
     let Some(name) = words.next() else {
         return Ok(());
     };
     match name {
-        "uleb" => tell_number::<u64>(output, bytes_of(heap, only(words)?)?.as_slice())?,
-        "sleb" => tell_number::<i64>(output, bytes_of(heap, only(words)?)?.as_slice())?,
-        "wuleb" => tell_code(heap, output, only(words)?.parse::<u64>()?)?,
-        "wsleb" => tell_code(heap, output, only(words)?.parse::<i64>()?)?,
-        "utf8" => tell_text(output, bytes_of(heap, only(words)?)?.as_slice())?,
-        "rcol" => {
-            let kind = next(&mut words)?;
-            let data = bytes_of(heap, only(words)?)?;
-            tell_column(heap, output, kind, data.as_slice(), 0)?;
-        }
-        "rcolx" => {
-            let kind = next(&mut words)?;
-            let calls = next(&mut words)?.parse::<usize>()?;
-            let data = bytes_of(heap, only(words)?)?;
-            tell_column(heap, output, kind, data.as_slice(), calls)?;
-        }
-        "wcol" => {
-            let kind = next(&mut words)?;
-            tell_written(heap, output, kind, words)?;
-        }
-        _ => return Err(RequestError::Bad),
+        "uleb" => read_number::<u64>(heap, words, output),
+        "sleb" => read_number::<i64>(heap, words, output),
+        "wuleb" => write_number::<u64>(heap, words, output),
+        "wsleb" => write_number::<i64>(heap, words, output),
+        "utf8" => read_text(heap, words, output),
+        "rcol" => read_column(heap, words, output),
+        "rcolx" => read_column_on(heap, words, output),
+        "wcol" => write_column(heap, words, output),
+        _ => Err(RequestError::Bad),
     }
-    Ok(())
+}
+
+#[inline(never)]
+fn read_number<N: Integer + Display>(
+    heap: Global,
+    words: SplitWhitespace<'_>,
+    output: &mut impl Write,
+) -> Result<(), RequestError> {
+    let bytes = bytes_of(heap, only(words)?)?;
+    Ok(tell_number::<N>(output, bytes.as_slice())?)
+}
+
+#[inline(never)]
+fn write_number<N: Integer + FromStr<Err = ParseIntError>>(
+    heap: Global,
+    words: SplitWhitespace<'_>,
+    output: &mut impl Write,
+) -> Result<(), RequestError> {
+    tell_code(heap, output, only(words)?.parse::<N>()?)
+}
+
+#[inline(never)]
+fn read_text(
+    heap: Global,
+    words: SplitWhitespace<'_>,
+    output: &mut impl Write,
+) -> Result<(), RequestError> {
+    let bytes = bytes_of(heap, only(words)?)?;
+    Ok(tell_text(output, bytes.as_slice())?)
+}
+
+#[inline(never)]
+fn read_column(
+    heap: Global,
+    mut words: SplitWhitespace<'_>,
+    output: &mut impl Write,
+) -> Result<(), RequestError> {
+    let kind = next(&mut words)?;
+    let data = bytes_of(heap, only(words)?)?;
+    tell_column(heap, output, kind, data.as_slice(), 0)
+}
+
+// The same, where the reader is asked to go on behind a fault.
+#[inline(never)]
+fn read_column_on(
+    heap: Global,
+    mut words: SplitWhitespace<'_>,
+    output: &mut impl Write,
+) -> Result<(), RequestError> {
+    let kind = next(&mut words)?;
+    let calls = next(&mut words)?.parse::<usize>()?;
+    let data = bytes_of(heap, only(words)?)?;
+    tell_column(heap, output, kind, data.as_slice(), calls)
+}
+
+#[inline(never)]
+fn write_column(
+    heap: Global,
+    mut words: SplitWhitespace<'_>,
+    output: &mut impl Write,
+) -> Result<(), RequestError> {
+    let kind = next(&mut words)?;
+    tell_written(heap, output, kind, words)
 }
 
 // The next word.
@@ -150,7 +202,18 @@ pub(crate) fn bytes_of(heap: Global, word: &str) -> Result<Vec<u8>, RequestError
     if word == "-" {
         return Ok(Vec::new(heap));
     }
-    Ok(hex::decode(heap, word)?)
+    match hex::decode(heap, word) {
+        Ok(bytes) => Ok(bytes),
+        // `decode` asks for memory before it looks at the digits: a word that has others is no request
+        // all the same.
+        Err(FromHexError::OutOfMemory) if !are_digits(word) => Err(RequestError::Bad),
+        Err(error) => Err(error.into()),
+    }
+}
+
+// Whether the word has hexadecimal digits alone.
+fn are_digits(word: &str) -> bool {
+    word.bytes().all(|digit| digit.is_ascii_hexdigit())
 }
 
 // The number that bytes start with, or why it is refused.
